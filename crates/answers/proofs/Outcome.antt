@@ -1,0 +1,57 @@
+-- What `Judged` settles: two outcomes that one statement allows coincide, `one-outcome`. The two ways to meet it: `refused` and `done`.
+-- An answer is known by its number: `number-injective`.
+use mathlib.Core.Path.{_≡_, refl, sym, _∙_, ap}
+use mathlib.Core.List.{List, [], _∷_}
+use Prim.Native.Nat.{ℕ, zero, suc}
+use lib.Dec.{T, ltb}
+use lib.ListN.{getD}
+use Rattle.answers.specs.declared.Answer.{Answer}
+use Rattle.answers.specs.Judged.{Test, Judged, first, after}
+use Rattle.answers.specs.Numbers.{numberOf}
+
+-- the answers in the order of their numbers
+abbrev pub answers : List Answer
+answers =
+    Answer.Done ∷ Answer.BadTable ∷ Answer.NoSuchBay ∷ Answer.BayTaken ∷ Answer.BayEmpty
+    ∷ Answer.NoSuchEdition ∷ Answer.NotSound ∷ Answer.TooLong ∷ Answer.BadClosing ∷ Answer.ShortOutput
+    ∷ Answer.BadRecord ∷ Answer.BadLayout ∷ Answer.NotAList ∷ Answer.NotListed ∷ Answer.DigestDiffers ∷ []
+
+pub answer-at : (a : Answer) → getD answers (numberOf a) Answer.Done ≡ a
+answer-at a =
+    elim a [
+      | Answer.Done ↦ refl
+      | Answer.BadTable ↦ refl
+      | Answer.NoSuchBay ↦ refl
+      | Answer.BayTaken ↦ refl
+      | Answer.BayEmpty ↦ refl
+      | Answer.NoSuchEdition ↦ refl
+      | Answer.NotSound ↦ refl
+      | Answer.TooLong ↦ refl
+      | Answer.BadClosing ↦ refl
+      | Answer.ShortOutput ↦ refl
+      | Answer.BadRecord ↦ refl
+      | Answer.BadLayout ↦ refl
+      | Answer.NotAList ↦ refl
+      | Answer.NotListed ↦ refl
+      | Answer.DigestDiffers ↦ refl
+    ]
+
+pub number-injective : (a b : Answer) → numberOf a ≡ numberOf b → a ≡ b
+number-injective a b e = sym (answer-at a) ∙ ap (λ (n : ℕ). getD answers n Answer.Done) e ∙ answer-at b
+
+pub one-outcome : {A : Type 0} {tests : List Test} {old new : A} {r s : Answer} {left also : A} →
+    Judged tests old new r left → Judged tests old new s also → (r ≡ s) × (left ≡ also)
+one-outcome {r = r} {s = s} j k = (number-injective r s (j .answer ∙ sym (k .answer)), j .leaves ∙ sym (k .leaves))
+
+keeps-old : {A : Type 0} (n : ℕ) (old new : A) → T (ltb 0 n) → after n old new ≡ old
+keeps-old zero old new t = absurd t
+keeps-old (suc n) old new t = refl
+
+-- a refusal: the tests give the number of r, which is not 0, and the old is left
+pub refused : {A : Type 0} {tests : List Test} {old new : A} {r : Answer} {left : A} →
+    first tests ≡ numberOf r → T (ltb 0 (numberOf r)) → left ≡ old → Judged tests old new r left
+refused {old = old} {new = new} {r = r} e t l = record { answer = sym e; leaves = l ∙ rw (e, keeps-old (numberOf r) old new t) }
+
+-- no test applies, and the new is left
+pub done : {A : Type 0} {tests : List Test} {old new : A} {left : A} → first tests ≡ 0 → left ≡ new → Judged tests old new Answer.Done left
+done e l = record { answer = sym e; leaves = l ∙ rw e }

@@ -1,0 +1,4 @@
+pub mod Below
+pub mod BigEndian
+pub mod Parts
+pub mod Words

@@ -1,0 +1,9 @@
+pub mod Bits
+pub mod Rotation
+pub mod Padding
+pub mod ByteForm
+pub mod Primes
+pub mod Roots
+pub mod Chain
+pub mod Rules
+pub mod Editions
