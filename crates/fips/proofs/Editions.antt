@@ -1,17 +1,21 @@
--- Which numbers name an edition, and what stands at the others: laws of specs/Editions.antt.
-use Prim.Native.Nat.{ℕ, zero, suc, _-_, _<_, _≤_}
-use mathlib.Core.Bool.{Bool, true, false, _&&_}
+-- Which numbers name an edition, what stands at the others, and what the lookup answers: laws of specs/Editions.antt and specs/Sizes.antt.
+use Prim.Native.Nat.{ℕ, zero, suc, _+_, _-_, _*_, _<_, _≤_}
+use mathlib.Core.Bool.{Bool, true, false, _&&_, cond, false≢true}
 use mathlib.Core.List.{List, [], _∷_, map}
 use mathlib.Core.Logic.{_⊎_, inl, inr, ⊎-elim}
 use mathlib.Core.Path.{_≡_, refl, sym, ap, _∙_}
-use native.Mathlib.Nat.{not-suc-le-zero, le-of-suc-le-suc}
+use native.Mathlib.Decide.{decLe}
+use native.Mathlib.Nat.{not-suc-le-zero, le-of-suc-le-suc, lt-of-not-le}
 use native.Mathlib.Omega.{arith}
 use lib.Dec.{ltb}
 use lib.ListN.{length, getD, drop, length-map, length-drop, List·getD-map, List·getD-eq-default}
 use lib.Seq.{getD-drop}
 use borrow.Author.Tests.{lt-ltb, le-ltb, ltb-true}
-use Rattle.fips.specs.Editions.{Edition, none, editions, edition, known, width, start, startRows}
-use Rattle.fips.specs.Words.{w32, w64}
+use Rattle.fips.specs.declared.EditionSizes.{EditionSizes}
+use Rattle.fips.specs.Words.{w32, w64, word}
+use Rattle.fips.specs.Editions.{Edition, none, editions, edition, known, width, digestBytes, start, startRows}
+use Rattle.fips.specs.ByteForm.{blockBytes}
+use Rattle.fips.specs.Sizes.{sizesOf}
 
 -- a place inside a list does not show what stands for those outside
 pub getD-inside {ℓ} : {A : Type ℓ} (l : List A) (i : ℕ) (d d′ : A) → i < length l → getD l i d ≡ getD l i d′
@@ -25,7 +29,7 @@ known-within e h k = rw (lt-ltb 0 e h, lt-ltb e 7 (omega arith))
 
 both : (a b : Bool) → (a && b) ≡ true → (a ≡ true) × (b ≡ true)
 both true b p = (refl, p)
-both false b p = (p, absurd (mathlib.Core.Bool.false≢true p))
+both false b p = (p, absurd (false≢true p))
 
 pub within-known : (e : ℕ) → known e ≡ true → (0 < e) × (e ≤ 6)
 unfolding known editions
@@ -63,6 +67,18 @@ pub width-some : (e : ℕ) → 0 < width e .bytes
 width-some e =
     ⊎-elim (λ (q : width e ≡ w32). rw q (omega arith)) (λ (q : width e ≡ w64). rw q (omega arith)) (width-cases e)
 
+-- a digest is no longer than the eight words
+pub digest-within : (e : ℕ) → digestBytes e ≤ 8 * width e .bytes
+unfolding edition editions
+digest-within zero = omega arith
+digest-within (suc zero) = omega arith
+digest-within (suc (suc zero)) = omega arith
+digest-within (suc (suc (suc zero))) = omega arith
+digest-within (suc (suc (suc (suc zero)))) = omega arith
+digest-within (suc (suc (suc (suc (suc zero))))) = omega arith
+digest-within (suc (suc (suc (suc (suc (suc zero)))))) = omega arith
+digest-within (suc (suc (suc (suc (suc (suc (suc e))))))) = omega arith
+
 -- the row of an edition
 row-of : (l : List Edition) (e : ℕ) → 0 < e → e < length l → getD (map (λ x. x .start) (drop 1 l)) (e - 1) [] ≡ getD l e none .start
 row-of [] e h k = absurd (not-suc-le-zero k)
@@ -76,3 +92,60 @@ row-of (x ∷ l) (suc e) h k =
 pub start-row : (e : ℕ) → 0 < e → e ≤ 6 → getD startRows (e - 1) [] ≡ start e
 unfolding startRows edition editions
 start-row e h k = row-of editions e h (omega arith)
+
+-- a number that names no edition has the empty one
+pub edition-none : (e : ℕ) → known e ≡ false → edition e ≡ none
+unfolding edition editions
+edition-none e p = go (decLe 1 e) (decLe e 6)
+  where
+    go : Dec (1 ≤ e) → Dec (e ≤ 6) → edition e ≡ none
+    go (yes h) (yes k) = absurd (false≢true (sym p ∙ known-within e h k))
+    go (yes h) (no k) = unknown-none e (lt-of-not-le k)
+    go (no h) d =
+        let z : e ≡ 0 = omega arith in
+        rw z
+
+-- ---- the lookup
+
+-- what the lookup says of an edition, and that it refuses the others
+pub sizes-known : (e w b d : ℕ) → sizesOf e ≡ EditionSizes.Known w b d →
+    (known e ≡ true) × (w ≡ word (width e)) × (b ≡ blockBytes (width e)) × (d ≡ digestBytes e)
+unfolding sizesOf
+sizes-known e w b d p = go (known e) refl p
+  where
+    go : (k : Bool) → known e ≡ k →
+        cond k (EditionSizes.Known (word (width e)) (blockBytes (width e)) (digestBytes e)) EditionSizes.Unknown ≡ EditionSizes.Known w b d →
+        (known e ≡ true) × (w ≡ word (width e)) × (b ≡ blockBytes (width e)) × (d ≡ digestBytes e)
+    go true q r = (q, (cc), (cc), (cc))
+    go false q r = let z : _≡_ {A = ℕ} 0 1 = cc in absurd (omega arith)
+
+pub sizes-unknown : (e : ℕ) → sizesOf e ≡ EditionSizes.Unknown → known e ≡ false
+unfolding sizesOf
+sizes-unknown e p = go (known e) refl p
+  where
+    go : (k : Bool) → known e ≡ k →
+        cond k (EditionSizes.Known (word (width e)) (blockBytes (width e)) (digestBytes e)) EditionSizes.Unknown ≡ EditionSizes.Unknown →
+        known e ≡ false
+    go true q r = let z : _≡_ {A = ℕ} 0 1 = cc in absurd (omega arith)
+    go false q r = q
+
+-- an edition has a digest of some bytes, and no other number has
+pub digest-none : (e : ℕ) → known e ≡ false → digestBytes e ≡ 0
+digest-none e p = ap (λ (x : Edition). x .digestBytes) (edition-none e p)
+
+unfoldable some-digest : (l : List Edition) → Bool
+some-digest [] = true
+some-digest (x ∷ l) = ltb 0 (x .digestBytes) && some-digest l
+
+some-at : (l : List Edition) (i : ℕ) → some-digest l ≡ true → i < length l → 0 < getD l i none .digestBytes
+unfolding some-digest
+some-at [] i t h = absurd (not-suc-le-zero h)
+some-at (x ∷ l) zero t h = ltb-true 0 (x .digestBytes) (both (ltb 0 (x .digestBytes)) (some-digest l) t .0)
+some-at (x ∷ l) (suc i) t h = some-at l i (both (ltb 0 (x .digestBytes)) (some-digest l) t .1) (le-of-suc-le-suc h)
+
+pub digest-some : (e : ℕ) → known e ≡ true → 0 < digestBytes e
+unfolding edition editions some-digest
+digest-some e p =
+    let w = within-known e p in
+    let back : 1 + (e - 1) ≡ e = omega arith in
+    rw (← back) (rw (getD-drop 1 editions (e - 1) none) at (some-at (drop 1 editions) (e - 1) refl (omega arith)))

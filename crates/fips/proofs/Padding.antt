@@ -2,7 +2,7 @@
 -- `zeros-of`: whatever count reaches 14 words modulo 16 is that count modulo 16 words.
 use Prim.Native.Nat.{ℕ, suc, _+_, _-_, _*_, _/_, _%_, _≤_, _<_}
 use mathlib.Core.Path.{_≡_, refl, sym, ap, ap₂, _∙_}
-use native.Mathlib.Nat.{mod-lt, mod-le, mod-add-mod, add-mod-mod, add-mod-right, mod-eq-of-lt, le-trans, le-of-eq, mod-self}
+use native.Mathlib.Nat.{mod-lt, mod-le, mod-add-mod, add-mod-mod, add-mod-right, mod-eq-of-lt, le-trans, le-of-eq, mod-self, add-assoc, mul-add-mod-self-right}
 use native.Mathlib.Omega.{arith}
 use lib.ListN.{length, replicate, length-append, length-replicate}
 use mathlib.Core.Bool.{Bool, true, false}
@@ -46,6 +46,33 @@ module _ (w l : ℕ) (some : 0 < w) where
 
   pub pad-fewest : Fewest w l (zeros w l)
   pad-fewest = record { reach = zeros-reach; fewest = λ k e. le-trans (le-of-eq (sym (zeros-of k e))) (mod-le k (16 * w)) }
+
+-- whole blocks before do not count
+pub zeros-period : (w k l : ℕ) → zeros w (k * (16 * w) + l) ≡ zeros w l
+unfolding zeros
+zeros-period w k l =
+    ap (λ (n : ℕ). (14 * w + (16 * w - n)) % (16 * w))
+    (ap (λ (n : ℕ). n % (16 * w)) (add-assoc (k * (16 * w)) l 1) ∙ mul-add-mod-self-right k (16 * w) (l + 1))
+
+-- where one block has room for the 1 bit and two words after l, and where it has not
+pub zeros-one : (w l : ℕ) → l + 1 + 2 * w ≤ 16 * w → l + 1 + zeros w l + 2 * w ≡ 16 * w
+zeros-one w l h =
+    let k = 14 * w - (l + 1) in
+    let some : 0 < w = omega arith in
+    let sum : l + 1 + k ≡ 14 * w = omega arith in
+    let reach : (l + 1 + k) % (16 * w) ≡ 14 * w = ap (λ (n : ℕ). n % (16 * w)) sum ∙ mod-eq-of-lt (omega arith) in
+    let is : k ≡ zeros w l = sym (mod-eq-of-lt (omega arith)) ∙ zeros-of w l some k reach in
+    omega arith
+
+pub zeros-two : (w l : ℕ) → l < 16 * w → 16 * w < l + 1 + 2 * w → l + 1 + zeros w l + 2 * w ≡ 2 * (16 * w)
+zeros-two w l h m =
+    let k = 30 * w - (l + 1) in
+    let some : 0 < w = omega arith in
+    let sum : l + 1 + k ≡ 14 * w + 16 * w = omega arith in
+    let reach : (l + 1 + k) % (16 * w) ≡ 14 * w =
+    ap (λ (n : ℕ). n % (16 * w)) sum ∙ add-mod-right (14 * w) (16 * w) ∙ mod-eq-of-lt (omega arith) in
+    let is : k ≡ zeros w l = sym (mod-eq-of-lt (omega arith)) ∙ zeros-of w l some k reach in
+    omega arith
 
 -- a padded message is whole blocks
 pub pad-whole : (p : Width) (m : List Bool) → 0 < p .bytes → length (pad p m) % (16 * word p) ≡ 0

@@ -1,0 +1,25 @@
+-- The letters after t rounds are the standard's. Assumes nothing.
+use Prim.Native.Nat.{_-_}
+use native.Mathlib.Omega.{arith}
+use Rattle.fips.specs.Words.{w32}
+use Rattle.sha2.proofs.Rounds.{Turned, turn-none, turn-more, turn-all}
+use Rattle.sha2.proofs.block32.rounds.Statement.{statement}
+use Rattle.sha2.proofs.block32.rounds.Tie as tie
+
+abbrev Inv-loop : tie.InvT-loop
+Inv-loop k w s₀ t₀ s t = Turned w32 64 k w s₀ s t
+
+abbrev μ-loop : tie.MeasureT-loop
+μ-loop k w s₀ t₀ s t = 64 - t
+
+loop-again : tie.Need-loop-again Inv-loop μ-loop
+loop-again c =
+    let turn = c .before .before .before in
+    turn-more (turn .loop-test .taken) (c .round .ensures) (turn .before .loop .inv)
+
+pub rounds-spec : {M : Type 1} → statement M
+rounds-spec =
+    tie.close
+    (tie.spec Inv-loop μ-loop (λ c. turn-none) (λ c. omega arith) (λ c. omega arith) (λ c. omega arith) (λ c. omega arith)
+    (λ c κs. tt) (λ c. omega arith) (λ c. omega arith) loop-again
+    (λ c. turn-all (c .loop-test .left) (c .before .loop .inv)))

@@ -1,0 +1,3 @@
+pub mod AtFront
+pub mod Hashing
+pub mod Hash
