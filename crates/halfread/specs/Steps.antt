@@ -1,0 +1,47 @@
+-- What becomes of a half-read message: opened, with a piece added, closed. A step refuses an unsound one with 6, first.
+-- Document 01, "Calls and their numbers".
+use Prim.Native.Nat.{ℕ, _+_, _*_, _/_}
+use mathlib.Core.Bool.{not}
+use mathlib.Core.List.{List, [], _∷_, _++_}
+use lib.Dec.{ltb}
+use lib.ListN.{length, drop, replicate}
+use Rattle.answers.specs.Judged.{Test, _when_}
+use Rattle.fips.specs.Editions.{start, digestBytes}
+use Rattle.sha2.specs.Hash.{limit, closingFits}
+use Rattle.sha2.specs.Hashing.{absorbed, finished, digestFrom}
+use Rattle.halfread.specs.declared.HalfRead.{HalfRead}
+use Rattle.halfread.specs.State.{block, held, pending, padded, sound}
+
+-- a message of which nothing is taken
+unfoldable pub opened : ℕ → HalfRead
+opened e = record { edition = e; count = 0; words = start e; tail = replicate 128 0 }
+
+module _ (h : HalfRead) where
+  -- ---- add: 6, 7
+
+  unfoldable pub addTests : List ℕ → List Test
+  addTests piece = 6 when not (sound h) ∷ 7 when ltb limit (h .count + length piece) ∷ []
+
+  -- the bytes not yet absorbed, once the piece has come
+  abbrev pub waiting : List ℕ → List ℕ
+  waiting piece = pending h ++ piece
+
+  -- whole blocks of them are absorbed, the rest is the new tail
+  unfoldable pub added : List ℕ → HalfRead
+  added piece =
+      record {
+        edition = h .edition;
+        count = h .count + length piece;
+        words = absorbed (h .edition) (h .words) (waiting piece);
+        tail = padded (drop (length (waiting piece) / block h * block h) (waiting piece));
+      }
+
+  -- ---- close: 6, 8, 9
+
+  unfoldable pub closeTests : ℕ → ℕ → List ℕ → List Test
+  closeTests closing b out =
+      6 when not (sound h) ∷ 8 when not (closingFits closing b) ∷ 9 when ltb (length out) (digestBytes (h .edition)) ∷ []
+
+  -- the digest of all that was taken and of the upper b bits of the closing byte
+  unfoldable pub closed : ℕ → ℕ → List ℕ
+  closed closing b = digestFrom (h .edition) (finished (h .edition) (h .words) (h .count) (pending h) closing b)
