@@ -55,3 +55,7 @@ refused {old = old} {new = new} {r = r} e t l = record { answer = sym e; leaves 
 -- no test applies, and the new is left
 pub done : {A : Type 0} {tests : List Test} {old new : A} {left : A} → first tests ≡ 0 → left ≡ new → Judged tests old new Answer.Done left
 done e l = record { answer = sym e; leaves = l ∙ rw e }
+
+-- the same of a statement that says what the result is
+pub one-value : {A : Type 0} {x r s : A} → r ≡ x → s ≡ x → r ≡ s
+one-value p q = p ∙ sym q

@@ -7,3 +7,4 @@ pub mod Roots
 pub mod Chain
 pub mod Rules
 pub mod Editions
+pub mod Outcomes

@@ -12,3 +12,4 @@ pub mod Digest
 pub mod AtOnce
 pub mod Last
 pub mod Finished
+pub mod Outcomes

@@ -1,4 +1,5 @@
-// What the layers above build on, for every edition's number, at words of 64 bits: absorbing whole blocks, and the digest. A number that names no edition has the width 64 and a digest of no bytes. Words are converted once a call.
+// What the layers above build on, for every edition's number, at words of 64 bits: absorbing whole blocks, and the digest.
+// A number that names no edition has the width 64 and a digest of no bytes. Words are converted once a call.
 ghost use mathlib.Core.Path.{_≡_};
 ghost use Rattle.fips.specs.Words.{w32};
 ghost use Rattle.fips.specs.ByteForm.{blockBytes};
@@ -57,10 +58,10 @@ fn widened(words: [u32; 8]) -> [u64; 8]
     ensures { λ r. ⌜ r ≡ words ⌝ }
 {
     let mut h = [0u64; 8];
-    let mut i = 0;
-    while i < 8 {
-        h[i] = wide(words[i]);
-        i += 1;
+    let mut k = 0;
+    while k < 8 {
+        h[k] = wide(words[k]);
+        k += 1;
     }
     h
 }

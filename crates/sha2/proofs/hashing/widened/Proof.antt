@@ -1,4 +1,4 @@
--- `sha2::hashing::widened` meets its contract: after i turns i words are copied. Assumes nothing.
+-- `sha2::hashing::widened` meets its contract: after k turns k words are copied. Assumes nothing.
 use Prim.Native.Nat.{_-_}
 use mathlib.Core.List.{[], _∷_, _++_}
 use mathlib.Core.Path.{_≡_, refl, _∙_}
@@ -11,10 +11,10 @@ use Rattle.sha2.proofs.hashing.widened.Statement.{statement}
 use Rattle.sha2.proofs.hashing.widened.Tie as tie
 
 abbrev Inv-loop : tie.InvT-loop
-Inv-loop words h₀ i₀ h i = Filled 8 8 (λ t. take t words) h i
+Inv-loop words h₀ k₀ h k = Filled 8 8 (λ t. take t words) h k
 
 abbrev μ-loop : tie.MeasureT-loop
-μ-loop words h₀ i₀ h i = 8 - i
+μ-loop words h₀ k₀ h k = 8 - k
 
 loop-again : tie.Need-loop-again Inv-loop μ-loop
 loop-again c =
@@ -22,7 +22,7 @@ loop-again c =
     let words = c .before .before .before .args .t1 in
     let long : length words ≡ 8 = search needs in
     fill-more (c .wide .result) (omega arith) (omega arith)
-    (rw (c .wide .ensures) (take-suc words (l .i) 0 (omega arith))) (l .inv)
+    (rw (c .wide .ensures) (take-suc words (l .k) 0 (omega arith))) (l .inv)
 
 returns : tie.Need-returns Inv-loop μ-loop
 returns c =
