@@ -1,12 +1,14 @@
 -- The plain ledger: document 01, "The plain ledger". It keeps N and, per bay, nothing or an entry with the whole list of bytes given, and
 -- hashes from the beginning each time. It knows no word of the table and never gives 1 or 6.
-use Prim.Native.Nat.{ℕ, _+_, _-_, _*_, _/_}
+use Prim.Native.Nat.{ℕ, _+_, _-_, _*_, _/_, _^_, _≤_}
 use mathlib.Core.Bool.{Bool, true, false, not}
 use mathlib.Core.List.{List, [], _∷_, _++_}
+use mathlib.Core.Path.{_≡_}
 use lib.Dec.{leb, ltb}
 use lib.ListN.{length, drop, getD, set, replicate}
 use Rattle.answers.specs.Judged.{Test, _when_, first, after}
-use Rattle.fips.specs.Words.{Width}
+use Rattle.bigendian.specs.BigEndian.{Below, Bytes}
+use Rattle.fips.specs.Words.{Width, word}
 use Rattle.fips.specs.Constants.{chain}
 use Rattle.fips.specs.Editions.{known, width, digestBytes, start}
 use Rattle.fips.specs.ByteForm.{blockBytes, ending, parseBytes}
@@ -65,6 +67,22 @@ module _ (en : Entry) where
   digestOf x b =
       let p : Width = width (en .edition) in
       digestFrom (en .edition) (chain p (en .startWords) (parseBytes p (en .since ++ ending p taken x b)))
+
+-- what an entry can be: of an edition, eight words of its width, whole blocks before, bytes since, within the limit; and begun where its
+-- edition begins if nothing stands before
+pub record Fine (en : Entry) : Type 0 where
+  pub isKnown : known (en .edition) ≡ true
+  pub eight : length (en .startWords) ≡ 8
+  pub below : Below (2 ^ word (width (en .edition))) (en .startWords)
+  pub blocks : ℕ
+  pub whole : en .before ≡ blocks * blockBytes (width (en .edition))
+  pub bytes : Bytes (en .since)
+  pub within : taken en ≤ limit
+  pub begun : en .before ≡ 0 → en .startWords ≡ start (en .edition)
+
+abbrev pub FineSlot : Slot → Type 0
+FineSlot nothing = Unit {0}
+FineSlot (entry en) = Fine en
 
 -- the same of a slot; of nothing, nothing
 abbrev pub isEntry : Slot → Bool
@@ -172,3 +190,13 @@ keep L l c =
           };
       slots = after n l (kept L l c);
     }
+
+-- a ledger of a table in a run of L words: its number of bays has room there, and its entries are fine
+pub record Ready (L : ℕ) (l : List Slot) : Type 0 where
+  pub room : roomFor (length l) L ≡ true
+  pub fine : (i : ℕ) → FineSlot (getD l i nothing)
+
+-- two ledgers of as many bays, each slot of one with the record of the other's
+pub record SameRecords (l m : List Slot) : Type 0 where
+  pub bays : length l ≡ length m
+  pub records : (i : ℕ) → slotRecord (getD l i nothing) ≡ slotRecord (getD m i nothing)

@@ -1,10 +1,11 @@
 -- Demand 3, as one statement: after a layout that is done, over memory that held anything, every sequence of calls gives answer for answer and
 -- byte for byte what the plain ledger gives. The theorem is `ledger`.
-use Prim.Native.Nat.{ℕ, _<_}
+use Prim.Native.Nat.{ℕ, _<_, _≤_}
 use mathlib.Core.List.{List, [], _∷_}
 use mathlib.Core.Path.{_≡_}
 use lib.ListN.{length, replicate}
 use Rattle.bigendian.specs.BigEndian.{Bytes}
+use Rattle.bays.specs.Table.{baysOf}
 use Rattle.bays.specs.Calls.{Call, layOut, opening, adding, closing, saving, loading, asking, dropping, Seen, run}
 use Rattle.bays.specs.Ledger.{Slot, nothing, keep}
 
@@ -41,3 +42,24 @@ abbrev pub Promise : Type 0
 Promise =
     (words : List ℕ) (n : ℕ) (calls : List Call) → AllPassed calls → run words (layOut n) .seen .answer ≡ 0 →
     seenOf (run words (layOut n) .table) calls ≡ saidOf (length words) (replicate n nothing) calls
+
+-- no answer is 1 or 6
+abbrev pub Undamaged : List Seen → Type 0
+Undamaged [] = Unit {0}
+Undamaged (s ∷ ss) = (s .answer ≡ 1 → ⊥) × (s .answer ≡ 6 → ⊥) × Undamaged ss
+
+-- how many bays a call reaches: those of the table, or those that it lays out
+abbrev pub reach : List ℕ → Call → ℕ
+reach t (layOut n) = n
+reach t (opening i e) = baysOf t
+reach t (adding i piece) = baysOf t
+reach t (closing i x b out) = baysOf t
+reach t (saving i out) = baysOf t
+reach t (loading i bytes) = baysOf t
+reach t (asking i) = baysOf t
+reach t (dropping i) = baysOf t
+
+-- no call lays out more than m bays
+abbrev pub LaidWithin : ℕ → List Call → Type 0
+LaidWithin m [] = Unit {0}
+LaidWithin m (c ∷ cs) = (reach (m ∷ []) c ≤ m) × LaidWithin m cs

@@ -137,7 +137,7 @@ bitsOf-zeros zero = refl
 bitsOf-zeros (suc k) =
     rw (bits-zero 8, bitsOf-zeros k, mul-suc 8 k, add-comm (8 * k) 8) (replicate-append-replicate 8 (8 * k) false)
 
-pow-256 : (n : ℕ) → 256 ^ n ≡ 2 ^ (8 * n)
+pub pow-256 : (n : ℕ) → 256 ^ n ≡ 2 ^ (8 * n)
 pow-256 zero = refl
 pow-256 (suc n) = rw (pow-suc 256 n, pow-256 n, mul-suc 8 n, pow-add 2 (8 * n) 8)
 

@@ -27,15 +27,17 @@ module _ (h : HalfRead) where
   pending = take held (h .tail)
 
   -- edition 1 to 6, c ≤ 2^40, chaining words below 2^w, everything after the tail zero, and, if c < block, the edition's starting words
-  unfoldable pub sound : Bool
-  sound =
-      holds
-      (known (h .edition)
+  abbrev pub rules : List Bool
+  rules =
+      known (h .edition)
       ∷ leb (h .count) limit
       ∷ allBelow (2 ^ word (width (h .edition))) (h .words)
       ∷ allZero (drop held (h .tail))
       ∷ (leb block (h .count) || same (h .words) (start (h .edition)))
-      ∷ [])
+      ∷ []
+
+  unfoldable pub sound : Bool
+  sound = holds rules
 
 -- the state of an empty bay: all zeros
 unfoldable pub blank : HalfRead

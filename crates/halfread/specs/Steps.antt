@@ -16,6 +16,10 @@ use Rattle.halfread.specs.State.{block, held, pending, padded, sound}
 unfoldable pub opened : ℕ → HalfRead
 opened e = record { edition = e; count = 0; words = start e; tail = replicate 128 0 }
 
+-- the bytes after the last whole block, in blocks of n
+abbrev pub rest : ℕ → List ℕ → List ℕ
+rest n bytes = drop (length bytes / n * n) bytes
+
 module _ (h : HalfRead) where
   -- ---- add: 6, 7
 
@@ -33,7 +37,7 @@ module _ (h : HalfRead) where
         edition = h .edition;
         count = h .count + length piece;
         words = absorbed (h .edition) (h .words) (waiting piece);
-        tail = padded (drop (length (waiting piece) / block h * block h) (waiting piece));
+        tail = padded (rest (block h) (waiting piece));
       }
 
   -- ---- close: 6, 8, 9

@@ -1,0 +1,65 @@
+-- A table laid out: its header is in order, `headed-laidOut`, every bay is empty, `bayAt-laidOut`, the length and the caller's words are as
+-- they were, `length-laidOut` and `laidOut-past`.
+use Prim.Native.Nat.{ℕ, _+_, _-_, _*_, _<_, _≤_}
+use mathlib.Core.Bool.{true}
+use mathlib.Core.List.{List, [], _∷_, _++_, append-assoc}
+use mathlib.Core.Path.{_≡_, refl, sym, ap, _∙_}
+use native.Mathlib.Omega.{arith}
+use lib.ListN.{length, take, drop, replicate, length-append, length-drop, length-replicate, replicate-append-replicate}
+use lib.Seq.{take-at, drop-at, drop-append-add}
+use Rattle.bays.specs.Table.{firstBay, bayWords, placeOf, baysOf, roomFor, headed, bayAt, laidOut}
+use Rattle.bays.specs.Bay.{emptyBay}
+use Rattle.bays.proofs.Frames.{Room, room-of, headed-of}
+
+abbrev head : ℕ → List ℕ
+head n = n ∷ firstBay ∷ bayWords ∷ 0 ∷ []
+
+abbrev zeros : ℕ → List ℕ
+zeros n = replicate n 0
+
+module _ (n : ℕ) (t : List ℕ) where
+  pub baysOf-laidOut : baysOf (laidOut n t) ≡ n
+  unfolding laidOut
+  baysOf-laidOut = refl
+
+  pub length-laidOut : placeOf n ≤ length t → length (laidOut n t) ≡ length t
+  unfolding laidOut
+  length-laidOut h = simp (length-append, length-replicate, length-drop) (omega arith)
+
+  pub headed-laidOut : roomFor n (length t) ≡ true → headed (laidOut n t) ≡ true
+  unfolding laidOut
+  headed-laidOut e =
+      headed-of (laidOut n t) (ap (roomFor n) (length-laidOut (room-of n (length t) e .within)) ∙ e) refl refl refl
+
+  -- behind the header
+  drop-head : (m : ℕ) → drop (firstBay + m) (laidOut n t) ≡ drop m (zeros (bayWords * n) ++ drop (placeOf n) t)
+  unfolding laidOut
+  drop-head m = drop-append-add (head n) (zeros (bayWords * n) ++ drop (placeOf n) t) m
+
+  pub laidOut-past : drop (placeOf n) (laidOut n t) ≡ drop (placeOf n) t
+  laidOut-past =
+      drop-head (bayWords * n)
+      ∙ drop-at (zeros (bayWords * n)) (drop (placeOf n) t) (bayWords * n) (length-replicate (bayWords * n) 0)
+
+  zeros-apart : (i : ℕ) → i < n →
+      zeros (bayWords * n) ≡ zeros (bayWords * i) ++ (zeros bayWords ++ zeros (bayWords * (n - i - 1)))
+  zeros-apart i h =
+      let e : bayWords * n ≡ bayWords * i + (bayWords + bayWords * (n - i - 1)) = omega arith in
+      rw (
+        e,
+        ← replicate-append-replicate {A = ℕ} (bayWords * i) (bayWords + bayWords * (n - i - 1)) 0,
+        ← replicate-append-replicate {A = ℕ} bayWords (bayWords * (n - i - 1)) 0,
+      )
+
+  pub bayAt-laidOut : (i : ℕ) → i < n → bayAt (laidOut n t) i ≡ emptyBay
+  unfolding bayAt
+  bayAt-laidOut i h =
+      let after = zeros (bayWords * (n - i - 1)) in
+      let rest = drop (placeOf n) t in
+      rw (
+        drop-head (bayWords * i),
+        zeros-apart i h,
+        append-assoc (zeros (bayWords * i)) (emptyBay ++ after) rest,
+        drop-at (zeros (bayWords * i)) (emptyBay ++ after ++ rest) (bayWords * i) (length-replicate (bayWords * i) 0),
+      )
+      (take-at emptyBay (after ++ rest) bayWords refl)

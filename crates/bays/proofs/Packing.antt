@@ -1,0 +1,192 @@
+-- A bay's 26 words and the half-read message that they hold: each makes the other, `halfOf-bayOf` and `bayOf-halfOf`.
+-- A bay is empty where it is 26 zeros, `empty-zeros` and `zeros-empty`; what an empty bay holds is not sound.
+use Prim.Native.Nat.{ℕ, zero, suc, _+_, _-_, _*_, _^_, _<_, _≤_}
+use mathlib.Core.Bool.{Bool, true, false, not, _||_, false≢true}
+use mathlib.Core.List.{List, [], _∷_, _++_, map, append-nil}
+use mathlib.Core.Path.{_≡_, refl, sym, ap, ap₂, _∙_}
+use native.Mathlib.Omega.{arith}
+use lib.Dec.{eqb}
+use lib.ListN.{length, take, drop, getD, set, replicate, length-append, length-take, length-drop, length-set, take-append-drop, drop-of-length-le}
+use lib.Seq.{take-at, drop-at, drop-cons, drop-drop, take-all}
+use Rattle.bigendian.specs.BigEndian.{be, Below, Bytes, word64}
+use Rattle.bigendian.specs.Words.{fromWords, toWords, withWords}
+use Rattle.bigendian.proofs.Below.{below-cons, below-append, below-take, below-drop}
+use Rattle.bigendian.proofs.Words.{length-fromWords, fromWords-bytes, length-toWords, toWords-below, toWords-fromWords, toWords-word64, fromWords-toWords-all, withWords-all}
+use Rattle.fips.specs.Editions.{known}
+use Rattle.sha2.specs.AtFront.{atFront}
+use Rattle.sha2.proofs.AtFront.{atFront-room}
+use Rattle.halfread.specs.declared.HalfRead.{HalfRead}
+use Rattle.halfread.specs.Lists.{every, allZero}
+use Rattle.halfread.specs.State.{Shaped, sound, blank}
+use Rattle.halfread.proofs.Lists.{allZero-zeros, zeros-allZero}
+use Rattle.bays.specs.Table.{bayWords}
+use Rattle.bays.specs.Bay.{halfOf, bayOf, isEmpty, emptyBay, soundBay}
+
+-- ---- there and back
+
+pub bayOf-long : (h : HalfRead) → length (h .words) ≡ 8 → length (bayOf h) ≡ bayWords
+unfolding bayOf
+bayOf-long h eight = simp (length-append, eight, length-toWords)
+
+module _ (h : HalfRead) (s : Shaped h) where
+  pub length-bayOf : length (bayOf h) ≡ bayWords
+  length-bayOf = bayOf-long h (s .eight)
+
+  pub below-bayOf : Below (2 ^ 64) (bayOf h)
+  unfolding bayOf
+  below-bayOf =
+      let rest = h .words ++ toWords 16 8 (h .tail) in
+      below-cons (h .count ∷ rest) (s .number)
+      (below-cons rest (s .counted)
+      (below-append (h .words) (toWords 16 8 (h .tail)) (s .fitting) (toWords-below 16 8 (h .tail) (s .bytes))))
+
+  pub halfOf-bayOf : halfOf (bayOf h) ≡ h
+  unfolding halfOf bayOf
+  halfOf-bayOf =
+      let t = toWords 16 8 (h .tail) in
+      let words : take 8 (h .words ++ t) ≡ h .words = take-at (h .words) t 8 (s .eight) in
+      let tail : fromWords 8 (drop 8 (h .words ++ t)) ≡ h .tail =
+      ap (fromWords 8) (drop-at (h .words) t 8 (s .eight)) ∙ fromWords-toWords-all 16 8 (h .tail) (s .bytes) (s .wide) in
+      λ i. record { edition = h .edition; count = h .count; words = words i; tail = tail i }
+
+module _ (b : List ℕ) (fits : length b ≡ bayWords) (words : Below (2 ^ 64) b) where
+  pub shaped-halfOf : Shaped (halfOf b)
+  unfolding halfOf
+  shaped-halfOf =
+      record {
+        eight = simp (length-take, length-drop, fits);
+        wide = simp (length-fromWords, length-drop, fits);
+        number = words 0;
+        counted = words 1;
+        fitting = below-take 8 (drop 2 b) (below-drop 2 b words);
+        bytes = fromWords-bytes 8 (drop 10 b);
+      }
+
+  tail-back : toWords 16 8 (fromWords 8 (drop 10 b)) ≡ drop 10 b
+  tail-back =
+      let long : length (drop 10 b) ≡ 16 = simp (length-drop, fits) in
+      ap (λ (k : ℕ). toWords k 8 (fromWords 8 (drop 10 b))) (sym long) ∙ toWords-fromWords 8 (drop 10 b) (below-drop 10 b words)
+
+  pub bayOf-halfOf : bayOf (halfOf b) ≡ b
+  unfolding bayOf halfOf
+  bayOf-halfOf =
+      let words : take 8 (drop 2 b) ++ toWords 16 8 (fromWords 8 (drop 10 b)) ≡ drop 2 b =
+      ap (λ (l : List ℕ). take 8 (drop 2 b) ++ l) (tail-back ∙ sym (drop-drop 8 2 b)) ∙ take-append-drop 8 (drop 2 b) in
+      rw words (rw (← drop-cons b 1 0 (omega arith)) (sym (drop-cons b 0 0 (omega arith))))
+
+-- ---- as the code has it
+
+pub eight-words : (b : List ℕ) → length b ≡ bayWords →
+    getD b 2 0 ∷ getD b 3 0 ∷ getD b 4 0 ∷ getD b 5 0 ∷ getD b 6 0 ∷ getD b 7 0 ∷ getD b 8 0 ∷ getD b 9 0 ∷ [] ≡ take 8 (drop 2 b)
+eight-words b fits =
+    rw (
+      drop-cons b 2 0 (omega arith),
+      drop-cons b 3 0 (omega arith),
+      drop-cons b 4 0 (omega arith),
+      drop-cons b 5 0 (omega arith),
+      drop-cons b 6 0 (omega arith),
+      drop-cons b 7 0 (omega arith),
+      drop-cons b 8 0 (omega arith),
+      drop-cons b 9 0 (omega arith),
+    )
+
+-- the tail's bytes over 128 others
+pub unpacked : (b words tail old : List ℕ) → length b ≡ bayWords → length old ≡ 128 → words ≡ take 8 (drop 2 b) →
+    tail ≡ withWords 8 (take (length b - 10) (drop 10 b)) old →
+    halfOf b ≡ record { edition = getD b 0 0; count = getD b 1 0; words = words; tail = tail }
+unfolding halfOf
+unpacked b words tail old fits long w t =
+    let all : take (length b - 10) (drop 10 b) ≡ drop 10 b = take-all (length b - 10) (drop 10 b) (rw (length-drop 10 b) (omega arith)) in
+    let room : length old ≡ length (drop 10 b) * 8 = rw (length-drop 10 b, fits) long in
+    let bytes : tail ≡ fromWords 8 (drop 10 b) =
+    t ∙ ap (λ (l : List ℕ). withWords 8 l old) all ∙ withWords-all 8 (drop 10 b) old (omega arith) room in
+    rw (w, bytes)
+
+atFront-all : (xs old : List ℕ) → length xs ≡ length old → atFront xs old ≡ xs
+atFront-all xs old e = atFront-room xs old (omega arith) ∙ rw (drop-of-length-le old {i = length xs} (omega arith), append-nil)
+
+two-set : (b : List ℕ) (e c : ℕ) → 2 ≤ length b → take 2 (set (set b 0 e) 1 c) ≡ e ∷ c ∷ []
+two-set [] e c h = absurd (omega arith)
+two-set (x ∷ []) e c h = absurd (omega arith)
+two-set (x ∷ y ∷ xs) e c h = refl
+
+-- two words set, eight copied, sixteen made of the tail: each part behind the ones before it
+module _ (b : List ℕ) (e c : ℕ) (words copied tail new : List ℕ) (fits : length b ≡ bayWords) (eight : length words ≡ 8)
+    (came : copied ≡ atFront words (take 8 (drop 2 (set (set b 0 e) 1 c)))) where
+  abbrev begun : List ℕ
+  begun = set (set b 0 e) 1 c
+
+  abbrev half-done : List ℕ
+  half-done = take 2 begun ++ (copied ++ drop 8 (drop 2 begun))
+
+  begun-long : length begun ≡ bayWords
+  begun-long = simp length-set fits
+
+  copied-is : copied ≡ words
+  copied-is =
+      let room : length (take 8 (drop 2 begun)) ≡ 8 = simp (length-take, length-drop) (omega (arith, begun-long)) in
+      came ∙ atFront-all words (take 8 (drop 2 begun)) (eight ∙ sym room)
+
+  pub half-long : length half-done ≡ bayWords
+  half-long = simp (length-append, length-take, length-drop) (omega (arith, begun-long, ap length copied-is))
+
+  front-two : take 2 begun ≡ e ∷ c ∷ []
+  front-two = two-set b e c (omega arith)
+
+  front-ten : take 10 half-done ≡ e ∷ c ∷ words
+  front-ten =
+      rw (front-two, copied-is) (ap (λ (l : List ℕ). e ∷ c ∷ l) (take-at words (drop 8 (drop 2 begun)) 8 eight))
+
+  pub packed : Bytes tail → new ≡ map word64 (toWords (length (take (length half-done - 10) (drop 10 half-done))) 8 tail) →
+      take 10 half-done ++ (new ++ drop (length half-done - 10) (drop 10 half-done)) ≡ e ∷ c ∷ (words ++ toWords 16 8 tail)
+  packed bytes made =
+      let rest : length (drop 10 half-done) ≡ length half-done - 10 = length-drop 10 half-done in
+      let part : length (take (length half-done - 10) (drop 10 half-done)) ≡ 16 =
+      length-take (length half-done - 10) (drop 10 half-done) ∙ omega (arith, rest, half-long) in
+      let is : new ≡ toWords 16 8 tail =
+      made ∙ ap (λ (k : ℕ). map word64 (toWords k 8 tail)) part ∙ toWords-word64 16 8 tail bytes (omega arith) in
+      rw (front-ten, drop-of-length-le (drop 10 half-done) {i = length half-done - 10} (omega arith), append-nil, is)
+
+-- ---- an empty bay
+
+pub zeros-empty : isEmpty emptyBay ≡ true
+unfolding isEmpty
+zeros-empty = zeros-allZero bayWords
+
+pub empty-zeros : (b : List ℕ) → length b ≡ bayWords → isEmpty b ≡ true → b ≡ emptyBay
+unfolding isEmpty
+empty-zeros b fits e = allZero-zeros b e ∙ ap (λ (n : ℕ). replicate n 0) fits
+
+pub halfOf-empty : halfOf emptyBay ≡ blank
+unfolding halfOf blank fromWords be
+halfOf-empty = refl
+
+pub unsound-blank : sound blank ≡ false
+unfolding sound blank known
+unsound-blank = refl
+
+-- so a bay that holds a sound message is taken
+pub empty-unsound : (b : List ℕ) → length b ≡ bayWords → isEmpty b ≡ true → sound (halfOf b) ≡ false
+empty-unsound b fits e = ap (λ (l : List ℕ). sound (halfOf l)) (empty-zeros b fits e) ∙ ap sound halfOf-empty ∙ unsound-blank
+
+pub sound-taken : (b : List ℕ) → length b ≡ bayWords → sound (halfOf b) ≡ true → isEmpty b ≡ false
+sound-taken b fits e = go (isEmpty b) refl
+  where
+    go : (x : Bool) → isEmpty b ≡ x → x ≡ false
+    go true p = absurd (false≢true (sym (empty-unsound b fits p) ∙ e))
+    go false p = refl
+
+pub taken-bayOf : (h : HalfRead) → Shaped h → sound h ≡ true → isEmpty (bayOf h) ≡ false
+taken-bayOf h s e = sound-taken (bayOf h) (length-bayOf h s) (ap sound (halfOf-bayOf h s) ∙ e)
+
+-- a bay is sound where it is empty or what it holds is
+pub soundBay-empty : (b : List ℕ) → isEmpty b ≡ true → soundBay b ≡ true
+unfolding soundBay
+soundBay-empty b e = rw e
+
+pub soundBay-taken : (b : List ℕ) → isEmpty b ≡ false → soundBay b ≡ sound (halfOf b)
+unfolding soundBay
+soundBay-taken b e = rw e
+
+pub soundBay-bayOf : (h : HalfRead) → Shaped h → sound h ≡ true → soundBay (bayOf h) ≡ true
+soundBay-bayOf h s e = soundBay-taken (bayOf h) (taken-bayOf h s e) ∙ ap sound (halfOf-bayOf h s) ∙ e

@@ -1,0 +1,84 @@
+-- A sound half-read message: document 01, "The table of bays". What `sound` tells, as facts, and the way back.
+-- Main statements: `sound-facts` and `facts-sound`.
+use Prim.Native.Nat.{ℕ, _-_, _^_, _≤_, _<_}
+use mathlib.Core.Bool.{Bool, true, false, _||_}
+use mathlib.Core.List.{List, _++_}
+use mathlib.Core.Path.{_≡_, refl, sym, ap, _∙_}
+use native.Mathlib.Decide.{decLe}
+use native.Mathlib.Nat.{lt-of-not-le}
+use native.Mathlib.Omega.{arith}
+use lib.ListN.{length, drop, replicate, length-drop, take-append-drop}
+use lib.Pow.{pow-pos}
+use borrow.Author.Tests.{leb-true, le-leb, lt-leb}
+use Rattle.bigendian.specs.BigEndian.{Below}
+use Rattle.fips.specs.Words.{word}
+use Rattle.fips.specs.Editions.{known, width, start}
+use Rattle.sha2.specs.Hash.{limit}
+use Rattle.halfread.specs.declared.HalfRead.{HalfRead}
+use Rattle.halfread.specs.Lists.{allZero}
+use Rattle.halfread.specs.State.{block, held, pending, padded, rules, sound, Shaped}
+use Rattle.halfread.proofs.Lists.{holds-at, allBelow-below, below-allBelow, allZero-zeros, zeros-allZero, same→≡, ≡→same}
+use Rattle.halfread.proofs.Rules.{held-within, Kept, past-rule, start-rule}
+use Rattle.halfread.proofs.Tails.{length-pending, padded-room, drop-padded}
+
+pub sound-kept : (h : HalfRead) → sound h ≡ true → Kept h
+unfolding sound
+sound-kept h e =
+    let at = holds-at (rules h) e in
+    record { known = at 0; short = at 1; below = at 2; zero = at 3 }
+
+-- what a sound message has
+pub record Sound (h : HalfRead) : Type 0 where
+  pub known : known (h .edition) ≡ true
+  pub limited : h .count ≤ limit
+  pub below : Below (2 ^ word (width (h .edition))) (h .words)
+  pub tail : h .tail ≡ padded (pending h)
+  pub begun : h .count < block h → h .words ≡ start (h .edition)
+
+-- the tail is its bytes and zeros
+pub zeros-behind : (h : HalfRead) → sound h ≡ true → length (h .tail) ≡ 128 → drop (held h) (h .tail) ≡ replicate (128 - held h) 0
+zeros-behind h e long =
+    allZero-zeros (drop (held h) (h .tail)) (sound-kept h e .zero)
+    ∙ ap (λ (n : ℕ). replicate n 0) (length-drop (held h) (h .tail) ∙ ap (λ (n : ℕ). n - held h) long)
+
+pub sound-facts : (h : HalfRead) → sound h ≡ true → Shaped h → Sound h
+unfolding sound
+sound-facts h e s =
+    let k = sound-kept h e in
+    record {
+      known = k .known;
+      limited = leb-true (h .count) limit (k .short);
+      below = allBelow-below (2 ^ word (width (h .edition))) (h .words) (pow-pos (word (width (h .edition)))) (k .below);
+      tail =
+          sym (take-append-drop (held h) (h .tail))
+          ∙ ap (λ (l : List ℕ). pending h ++ l)
+          (zeros-behind h e (s .wide) ∙ ap (λ (n : ℕ). replicate (128 - n) 0) (sym (length-pending h (s .wide))))
+          ∙ sym (padded-room (pending h) (omega (arith, length-pending h (s .wide), held-within h)));
+      begun = λ p. same→≡ (h .words) (start (h .edition)) (either (lt-leb (block h) (h .count) p) (holds-at (rules h) e 4));
+    }
+  where
+    either : {a b : Bool} → a ≡ false → (a || b) ≡ true → b ≡ true
+    either p q = rw p at q
+
+pub facts-sound : (h : HalfRead) → Shaped h → Sound h → sound h ≡ true
+facts-sound h s f = go (decLe (block h) (h .count))
+  where
+    zero : allZero (drop (held h) (h .tail)) ≡ true
+    zero =
+        ap (λ (l : List ℕ). allZero (drop (held h) l)) (f .tail)
+        ∙ ap allZero (drop-padded (pending h) (held h) (omega (arith, held-within h)) (length-pending h (s .wide)))
+        ∙ zeros-allZero (128 - held h)
+
+    kept : Kept h
+    kept =
+        record {
+          known = f .known;
+          short = le-leb (h .count) limit (f .limited);
+          below = below-allBelow (2 ^ word (width (h .edition))) (h .words) (f .below);
+          zero = zero;
+        }
+
+    go : Dec (block h ≤ h .count) → sound h ≡ true
+    go (yes p) = sym (past-rule h kept p)
+    go (no p) =
+        sym (start-rule h kept (lt-of-not-le p) refl (sym (≡→same (h .words) (start (h .edition)) (f .begun (lt-of-not-le p)))))

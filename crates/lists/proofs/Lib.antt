@@ -1,0 +1,9 @@
+pub mod Compare
+pub mod Allowed
+pub mod Editions
+pub mod Written
+pub mod ByRules
+pub mod Walk
+pub mod Places
+pub mod Lists
+pub mod Outcomes

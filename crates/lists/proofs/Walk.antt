@@ -1,0 +1,66 @@
+-- A walk over the entries by their place in the list: laws of `entriesRight` and `readPairs` where the entries left start at an offset.
+-- `entries-on` and `entries-stop` take one entry; `entry-fits` bounds its name; `place-on` compares it with a name that is
+-- looked for; `one-less` counts the entries left.
+use mathlib.Core.Bool.{true, false, cond}
+use mathlib.Core.List.{List}
+use mathlib.Core.Path.{_≡_}
+use Prim.Native.Nat.{ℕ, suc, _+_, _-_, _*_, _<_, _≤_}
+use native.Mathlib.Nat.{suc-mul}
+use native.Mathlib.Omega.{arith}
+use lib.ListN.{length, drop}
+use lib.Seq.{drop-drop}
+use Rattle.lists.specs.declared.Found.{Found}
+use Rattle.lists.specs.Calls.{placeIn}
+use Rattle.lists.specs.Compare.{same}
+use Rattle.lists.specs.Layout.{part, field, entrySize, readPairs}
+use Rattle.lists.specs.Rules.{entryRight, entriesRight}
+use Rattle.lists.proofs.Compare.{cond-both}
+use Rattle.lists.proofs.ByRules.{right-entry}
+
+pub one-less : (m i n : ℕ) → i < m → (m - i) * n ≡ (m - (i + 1)) * n + n
+one-less m i n h =
+    let e : m - i ≡ suc (m - (i + 1)) = omega arith in
+    rw e (suc-mul (m - (i + 1)) n)
+
+-- n entries from the one at place i on, of which there are m
+module _ (m i size at next : ℕ) (last bs : List ℕ) (h : i < m) where
+  pub entries-on : (len : ℕ) → len ≡ field bs (at + 4) 4 → entryRight last next (drop at bs) bs ≡ true →
+      entriesRight (m - i) size last next (drop at bs) bs
+      ≡ entriesRight (m - (i + 1)) size (part bs next len) (next + len) (drop (at + size) bs) bs
+  unfolding entriesRight
+  entries-on len p e =
+      let s : m - i ≡ suc (m - (i + 1)) = omega arith in
+      rw (s, e, drop-drop 4 at bs, ← p, drop-drop size at bs)
+
+  pub entries-stop : entryRight last next (drop at bs) bs ≡ false → entriesRight (m - i) size last next (drop at bs) bs ≡ false
+  unfolding entriesRight
+  entries-stop e =
+      let s : m - i ≡ suc (m - (i + 1)) = omega arith in
+      rw (s, e)
+
+  pub entries-first : entriesRight (m - i) size last next (drop at bs) bs ≡ true → entryRight last next (drop at bs) bs ≡ true
+  unfolding entriesRight
+  entries-first e =
+      let s : m - i ≡ suc (m - (i + 1)) = omega arith in
+      cond-both (entryRight last next (drop at bs) bs) _ (rw s at e) .0
+
+pub entry-fits : (at next : ℕ) (last bs : List ℕ) (len : ℕ) → len ≡ field bs (at + 4) 4 → entryRight last next (drop at bs) bs ≡ true →
+    len ≤ length bs - next
+entry-fits at next last bs len p e = rw (p, ← drop-drop 4 at bs) (right-entry last next (drop at bs) bs e .within)
+
+-- the first of the pairs left is the one whose name stands at `next`
+pub place-on : (m i d at next : ℕ) (name last bs : List ℕ) → i < m → (len : ℕ) → len ≡ field bs (at + 4) 4 →
+    entryRight last next (drop at bs) bs ≡ true →
+    placeIn name d at (readPairs (m - i) d (drop at bs) bs)
+    ≡ cond (same (part bs next len) name) (Found.At (at + 8) d)
+    (placeIn name d (at + entrySize d) (readPairs (m - (i + 1)) d (drop (at + entrySize d) bs) bs))
+unfolding placeIn readPairs
+place-on m i d at next name last bs h len p e =
+    let s : m - i ≡ suc (m - (i + 1)) = omega arith in
+    rw (s, right-entry last next (drop at bs) bs e .offset, drop-drop 4 at bs, ← p, drop-drop (entrySize d) at bs)
+
+pub place-over : (m i d at : ℕ) (name bs : List ℕ) → m ≤ i → placeIn name d at (readPairs (m - i) d (drop at bs) bs) ≡ Found.NotListed
+unfolding placeIn readPairs
+place-over m i d at name bs h =
+    let s : m - i ≡ 0 = omega arith in
+    rw s
