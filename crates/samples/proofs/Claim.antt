@@ -13,7 +13,12 @@ use Rattle.fips.specs.Block.{next, schedule, round, rounds, block, blocks}
 use Rattle.fips.specs.Padding.{zeros, pad, parse}
 use Rattle.fips.specs.Constants.{roundWords, hashFrom, start224, start256, start384, start512, ascii, generated}
 use Rattle.fips.specs.Editions.{editions, edition, digest}
-use Rattle.fips.specs.ByteForm.{message}
+use Rattle.fips.specs.ByteForm.{message, parseBytes}
+use Rattle.sha2.specs.AtFront.{atFront}
+use Rattle.sha2.specs.Hashing.{fit, absorbed}
+use Rattle.halfread.specs.Steps.{opened, added}
+use Rattle.halfread.specs.Record.{recordOf}
+use Rattle.lists.specs.Layout.{listBytes, header, entryRun, nameRun}
 use Rattle.samples.specs.Samples.{Sample, Hold, table}
 
 both : (a b : Bool) → T (a && b) → T a × T b
@@ -45,7 +50,7 @@ agree→hold (s ∷ ss) t =
     (same→eq (s .given) (s .said) (p .0), agree→hold ss (p .1))
 
 test : T (agree table)
-unfolding table be number toWords fromWords bits value bitsOf pieces primes primesBelow isPrime undivided rootWord root next schedule round rounds block blocks zeros pad parse roundWords hashFrom start224 start256 start384 start512 ascii generated editions edition digest message zipWith
+unfolding table be number toWords fromWords bits value bitsOf pieces primes primesBelow isPrime undivided rootWord root next schedule round rounds block blocks zeros pad parse roundWords hashFrom start224 start256 start384 start512 ascii generated editions edition digest message zipWith parseBytes atFront fit absorbed opened added recordOf listBytes header entryRun nameRun
 test = tt
 
 pub samples : Hold table

@@ -6,13 +6,17 @@ use mathlib.Core.List.{List, [], _∷_, _++_, map}
 use mathlib.Core.Path.{_≡_}
 use lib.ListN.{length, replicate}
 use Rattle.bigendian.specs.BigEndian.{be}
+use Rattle.bigendian.specs.Words.{fromWords}
 use Rattle.fips.specs.Bits.{value, pieces}
 use Rattle.fips.specs.Words.{Width, w32, w64, ch, big0, big1, small0, small1}
 use Rattle.fips.specs.Roots.{rootWord}
 use Rattle.fips.specs.Padding.{pad, parse}
 use Rattle.fips.specs.Constants.{ascii}
 use Rattle.fips.specs.ByteForm.{message}
-use Rattle.fips.specs.Editions.{digest}
+use Rattle.fips.specs.Editions.{start, digest}
+use Rattle.halfread.specs.Steps.{opened, added}
+use Rattle.halfread.specs.Record.{recordOf}
+use Rattle.lists.specs.Layout.{listBytes}
 
 pub record Sample : Type 0 where
   pub given : List ℕ
@@ -55,6 +59,10 @@ table =
     ∷ ((big0 w64 1 ∷ small0 w64 1 ∷ []) is (0x0000001042000000 ∷ 0x8100000000000000 ∷ []))
     ∷ ((ch w32 0xffff0000 0x12345678 0x9abcdef0 ∷ []) is (0x1234def0 ∷ []))
     ∷ ((rootWord 2 32 2 ∷ rootWord 3 32 2 ∷ []) is (0x6a09e667 ∷ 0x428a2f98 ∷ []))
+    -- the record of edition 2 after `abc`, and the empty list of edition 2
+    ∷ (recordOf (added (opened 2) (ascii "abc"))
+    is be 8 0x0002000800180038 ++ (replicate 7 0 ++ (0x03 ∷ [])) ++ be 8 0x0003003b00000000 ++ fromWords 4 (start 2) ++ (0x61 ∷ 0x62 ∷ 0x63 ∷ []))
+    ∷ (listBytes (record { edition = 2; pairs = [] }) is be 4 0x00020000 ++ be 4 0x10 ++ be 4 0x10 ++ be 4 0x10)
     -- `abc` in editions 1 to 6, as NIST's examples have it
     ∷ (digest 1 abc is be 28 0x23097d223405d8228642a477bda255b32aadbce4bda0b3f7e36c9da7)
     ∷ (digest 2 abc is be 32 0xba7816bf8f01cfea414140de5dae2223b00361a396177a9cb410ff61f20015ad)
