@@ -1,0 +1,3 @@
+pub mod Root
+pub mod Held
+pub mod Tree

@@ -1,0 +1,122 @@
+// The tree of a whole map: its leaves in a buffer of nodes, then one level after the other in their place, up to the root.
+ghost use mathlib.Core.Path.{_≡_};
+ghost use mathlib.Core.List.{[], _∷_, map as each};
+ghost use Prim.Native.Nat.{_+_, _*_, _/_, _<_, _≤_};
+ghost use lib.ListN.{length, take, getD};
+ghost use Rattle.answers.specs.Judged.{Judged};
+ghost use Rattle.fips.specs.Bits.{pieces};
+ghost use Rattle.tree.specs.Held.{held, nodeAt, withNode};
+ghost use Rattle.tree.specs.Root.{chunkBytes, nodeBytes, leaf as leafOf, up, top, root as rootOf};
+ghost use Rattle.tree.specs.Tree.{limit, treeTests, rooted};
+use crate::node::leaf;
+use crate::node::nothing;
+use crate::node::parent;
+use answers::Answer;
+use sha2::front::put_front;
+
+// House: at most 1 MiB, which is 1,024 chunks.
+const LIMIT: usize = 1_048_576;
+
+fn node_at(nodes: &[u8], i: usize) -> [u8; 32]
+    requires { ⌜ i * nodeBytes + nodeBytes ≤ length (now nodes) ⌝ }
+    ensures { λ r. ⌜ r ≡ nodeAt i (now (nodes .entry)) ⌝ }
+{
+    let start = i * 32;
+    let end = start + 32;
+    let mut node = [0u8; 32];
+    put_front(&mut node, &nodes[start..end]);
+    node
+}
+
+fn put_node(nodes: &mut [u8], i: usize, node: [u8; 32])
+    requires { ⌜ i * nodeBytes + nodeBytes ≤ length (now nodes) ⌝ }
+    ensures { λ _. ⌜ now (nodes .exit) ≡ withNode i node (now (nodes .entry)) ⌝ }
+{
+    let start = i * 32;
+    let end = start + 32;
+    put_front(&mut nodes[start..end], &node);
+}
+
+// The rule of a level: the first node of the level above `count` nodes. A lone node is paired with itself.
+fn first_above(nodes: &[u8], count: usize) -> [u8; 32]
+    requires { ⌜ (0 < count) × (count * nodeBytes ≤ length (now nodes)) ⌝ }
+    ensures { λ r. ⌜ r ≡ getD (up (held count (now (nodes .entry)))) 0 [] ⌝ }
+{
+    let left = node_at(nodes, 0);
+    if count == 1 {
+        return parent(left, left);
+    }
+    let right = node_at(nodes, 1);
+    parent(left, right)
+}
+
+// One level up, in place: node j of the level above takes the place of a node that is read no more.
+fn level(nodes: &mut [u8], count: usize)
+    requires { ⌜ count * nodeBytes ≤ length (now nodes) ⌝ }
+    ensures { λ _. ⌜ held ((count + 1) / 2) (now (nodes .exit)) ≡ up (held count (now (nodes .entry))) ⌝ }
+{
+    let mut j = 0;
+    while 2 * j < count {
+        let start = 64 * j;
+        let node = first_above(&nodes[start..], count - 2 * j);
+        put_node(nodes, j, node);
+        j += 1;
+    }
+}
+
+// Level after level until one node is left, at the front.
+fn rise(nodes: &mut [u8], count: usize)
+    requires { ⌜ (0 < count) × (count * nodeBytes ≤ length (now nodes)) ⌝ }
+    ensures { λ _. ⌜ take nodeBytes (now (nodes .exit)) ≡ top (held count (now (nodes .entry))) ⌝ }
+{
+    let mut left = count;
+    while 1 < left {
+        level(nodes, left);
+        left = (left + 1) / 2;
+    }
+}
+
+// The leaves of the first chunks, as many as `count` says.
+fn leaves(map: &[u8], count: usize, nodes: &mut [u8])
+    requires { ⌜ (count * chunkBytes ≤ length (now map) + chunkBytes) × (count * nodeBytes ≤ length (now nodes)) ⌝ }
+    ensures { λ _. ⌜ held count (now (nodes .exit)) ≡ each leafOf (pieces chunkBytes count (now (map .entry))) ⌝ }
+{
+    let mut i = 0;
+    while i < count {
+        let start = i * 1024;
+        let node = leaf(&map[start..]);
+        put_node(nodes, i, node);
+        i += 1;
+    }
+}
+
+fn root(map: &[u8]) -> [u8; 32]
+    requires { ⌜ length (now map) ≤ limit ⌝ }
+    ensures { λ r. ⌜ r ≡ rootOf (now (map .entry)) ⌝ }
+{
+    if map.len() == 0 {
+        return nothing();
+    }
+    let count = (map.len() + 1023) / 1024;
+    let mut nodes = [0u8; 32768];
+    leaves(map, count, &mut nodes);
+    rise(&mut nodes, count);
+    node_at(&nodes, 0)
+}
+
+// The root of the map's chunk tree at the front of the output.
+pub fn tree(map: &[u8], out: &mut [u8]) -> Answer
+    ensures { λ r.
+        ⌜ Judged (treeTests (now (map .entry)) (now (out .entry))) (now (out .entry))
+        (rooted (now (map .entry)) (now (out .entry))) r (now (out .exit)) ⌝ }
+{
+    if LIMIT < map.len() {
+        return Answer::TooLong;
+    }
+    if out.len() < 32 {
+        return Answer::ShortOutput;
+    }
+    let node = root(map);
+    put_front(out, &node);
+    Answer::Done
+}

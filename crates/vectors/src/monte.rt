@@ -1,0 +1,123 @@
+// A line of NIST's Monte Carlo test: `edition count seed hexdigest`, `-` where the seed is the digest of the line before. The digest is
+// reached from the seed three times by a thousand turns: each hashes the last three digests, one after the other.
+use crate::line::digest_front;
+use crate::line::room;
+use hexlines::Number;
+
+// Puts bytes at the end of the window, of which the foremost go.
+fn push(window: &mut [u8; 192], new: &[u8]) {
+    let n = new.len();
+    if 192 < n {
+        return;
+    }
+    let keep = 192 - n;
+    let mut i = 0;
+    while i < keep {
+        window[i] = window[i + n];
+        i += 1;
+    }
+    let mut j = 0;
+    while j < n {
+        window[keep + j] = new[j];
+        j += 1;
+    }
+}
+
+// The last n bytes of the window at the front of d.
+fn pull(window: &[u8; 192], n: usize, d: &mut [u8; 64]) {
+    if 64 < n {
+        return;
+    }
+    let from = 192 - n;
+    let mut i = 0;
+    while i < n {
+        d[i] = window[from + i];
+        i += 1;
+    }
+}
+
+// One turn: the digest of the last three digests, of n bytes each. Answers whether hash at once did it.
+fn turn(edition: u64, window: &mut [u8; 192], n: usize) -> bool {
+    if 64 < n {
+        return false;
+    }
+    let mut out = [0u8; 64];
+    let from = 192 - 3 * n;
+    let done = digest_after(edition, window, from, room(&mut out, n));
+    push(window, digest_front(&out, n));
+    done
+}
+
+fn digest_after(edition: u64, window: &[u8], from: usize, out: &mut [u8]) -> bool {
+    if window.len() < from {
+        return false;
+    }
+    answers::number(sha2::hash::hash(edition, &window[from..], 0, 0, out)) == 0
+}
+
+fn thousand(edition: u64, window: &mut [u8; 192], n: usize) -> bool {
+    let mut i: usize = 0;
+    while i < 1000 {
+        if !turn(edition, window, n) {
+            return false;
+        }
+        i += 1;
+    }
+    true
+}
+
+// A thousand turns from the seed, the first n bytes of `last`, which are then the digest reached.
+fn run(edition: u64, last: &mut [u8; 64], n: usize) -> bool {
+    let seed = *last;
+    let mut window = [0u8; 192];
+    push(&mut window, digest_front(&seed, n));
+    push(&mut window, digest_front(&seed, n));
+    push(&mut window, digest_front(&seed, n));
+    let done = thousand(edition, &mut window, n);
+    pull(&window, n, last);
+    done
+}
+
+// What a line hands on: its edition and the bytes of its digest; and whether it holds.
+pub struct Chain {
+    pub edition: u64,
+    pub size: usize,
+    pub held: bool,
+}
+
+// The bytes of the seed that the text names and that goes to `last`; where the text is `-`, those of the digest that is there.
+fn seed(text: &[u8], edition: u64, before: Chain, last: &mut [u8; 64]) -> usize {
+    if check::same(text, b"-") {
+        if edition == before.edition {
+            return before.size;
+        }
+        return 0;
+    }
+    crate::line::digest(text, last)
+}
+
+fn reached(last: &[u8; 64], n: usize, text: &[u8]) -> bool {
+    let mut expected = [0u8; 64];
+    let m = crate::line::digest(text, &mut expected);
+    check::same(digest_front(last, n), digest_front(&expected, m))
+}
+
+// Judges a line, after the line before, whose digest `last` holds.
+pub fn judged(line: &[u8], before: Chain, last: &mut [u8; 64]) -> Chain {
+    let Number::Is(edition) = hexlines::decimal(hexlines::first_field(line)) else {
+        return Chain {
+            edition: 0,
+            size: 0,
+            held: false,
+        };
+    };
+    let texts = hexlines::other_fields(hexlines::other_fields(line));
+    let size = seed(hexlines::first_field(texts), edition, before, last);
+    let done = run(edition, last, size);
+    let right = reached(last, size, hexlines::other_fields(texts));
+    Chain {
+        edition,
+        size,
+        held: done && right,
+    }
+}
