@@ -49,7 +49,7 @@ fn timed(work: impl FnOnce()) -> Duration {
     now() - start
 }
 
-/// Measures both, each `turns` times, in alternating order, and answers the best time of each.
+/// Measures both on the same work, each `turns` times, in alternating order, and answers the best time of each.
 fn race(turns: usize, mut ours: impl FnMut(), mut theirs: impl FnMut()) -> (Duration, Duration) {
     let (mut us, mut them) = (Duration::MAX, Duration::MAX);
     for turn in 0..turns {

@@ -3,7 +3,7 @@
 ghost use mathlib.Core.Path.{_≡_};
 ghost use mathlib.Core.List.{List, zipWith};
 ghost use Prim.Native.Nat.{ℕ, _+_, _≤_, _<_};
-ghost use lib.ListN.{length, take, drop};
+ghost use lib.ListN.{length, take, drop, getD, set};
 ghost use Rattle.bigendian.specs.BigEndian.{number};
 ghost use Rattle.bigendian.specs.Words.{toWords};
 ghost use Rattle.fips.specs.Words.{w32, add, ch, maj, big0, big1, small0, small1};
@@ -103,7 +103,16 @@ fn next(w: &[u32; 64], t: usize) -> u32
     )
 }
 
-// The full schedule of 64 words.
+// W_t, stored at its place.
+fn extend(w: &mut [u32; 64], t: usize)
+    requires { ⌜ (16 ≤ t) × (t < 64) ⌝ }
+    ensures { λ _. ⌜ ((m : List ℕ) → now (w .exit) ≡ set (now (w .entry)) t (next w32 m t (now (w .entry)))) ⌝ }
+{
+    let word = next(w, t);
+    w[t] = word;
+}
+
+// The full schedule of 64 words, eight a turn: a word that was just stored is then still at hand.
 fn schedule(s: &[u8]) -> [u32; 64]
     requires { ⌜ 64 ≤ length (now s) ⌝ }
     ensures { λ r. ⌜ r ≡ schedule w32 (toWords 16 4 (now (s .entry))) 64 ⌝ }
@@ -111,8 +120,15 @@ fn schedule(s: &[u8]) -> [u32; 64]
     let mut w = begin(s);
     let mut t = 16;
     while t < 64 {
-        w[t] = next(&w, t);
-        t += 1;
+        extend(&mut w, t);
+        extend(&mut w, t + 1);
+        extend(&mut w, t + 2);
+        extend(&mut w, t + 3);
+        extend(&mut w, t + 4);
+        extend(&mut w, t + 5);
+        extend(&mut w, t + 6);
+        extend(&mut w, t + 7);
+        t += 8;
     }
     w
 }
@@ -149,15 +165,31 @@ fn round(s: [u32; 8], k: u32, w: u32) -> [u32; 8]
     ]
 }
 
+// The round of W_t.
+fn turn(s: [u32; 8], k: &[u32; 64], w: &[u32; 64], t: usize) -> [u32; 8]
+    requires { ⌜ t < 64 ⌝ }
+    ensures { λ r. ⌜ r ≡ round w32 (getD (now (k .entry)) t 0) (getD (now (w .entry)) t 0) s ⌝ }
+{
+    round(s, k[t], w[t])
+}
+
+// Eight rounds a turn: each letter is then back in its place, and none is moved in between.
 fn rounds(h: [u32; 8], k: &[u32; 64], w: &[u32; 64]) -> [u32; 8]
     ensures { λ r. ⌜ r ≡ rounds w32 (now (k .entry)) (now (w .entry)) 64 h ⌝ }
 {
     let mut s = h;
     let mut t = 0;
     while t < 64 {
-        let n = round(s, k[t], w[t]);
-        s = n;
-        t += 1;
+        let s1 = turn(s, k, w, t);
+        let s2 = turn(s1, k, w, t + 1);
+        let s3 = turn(s2, k, w, t + 2);
+        let s4 = turn(s3, k, w, t + 3);
+        let s5 = turn(s4, k, w, t + 4);
+        let s6 = turn(s5, k, w, t + 5);
+        let s7 = turn(s6, k, w, t + 6);
+        let s8 = turn(s7, k, w, t + 7);
+        s = s8;
+        t += 8;
     }
     s
 }

@@ -90,13 +90,13 @@ leaf-message x bytes room {y} n {end} long isY isEnd =
     ∙ ap (λ (l : List ℕ). x ∷ l) (take-at (take n bytes) (drop (length bytes) room) end size)
 
 -- a byte and two nodes, the second written behind the first: y and z are how the parts come back
-abbrev pub joined : ℕ → List ℕ → List ℕ → List ℕ
-joined x y z = x ∷ (take 32 (y ++ []) ++ (z ++ drop 32 (drop 33 (x ∷ (y ++ [])))))
+abbrev pub behind : ℕ → List ℕ → List ℕ → List ℕ
+behind x y z = x ∷ (take 32 (y ++ []) ++ (z ++ drop 32 (drop 33 (x ∷ (y ++ [])))))
 
 pub parent-message : (x : ℕ) (left right room : List ℕ) {y z : List ℕ} →
     length left ≡ nodeBytes → length right ≡ nodeBytes → length room ≡ 64 → y ≡ atFront left room →
     z ≡ atFront right (take 32 (drop 33 (x ∷ (y ++ [])))) →
-    joined x y z ≡ x ∷ (left ++ right)
+    behind x y z ≡ x ∷ (left ++ right)
 parent-message x left right room {y} {z} longL longR long isY isZ =
     let w = drop 32 room in
     let rest : length w ≡ 32 = length-drop 32 room ∙ omega arith in

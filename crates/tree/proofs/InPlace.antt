@@ -1,6 +1,6 @@
 -- A level computed in place, the leaves put one after the other, and level after level: the invariants of the loops, and their turns.
 -- What is done and what is left decide: the nodes written so far, and the nodes that the rest of the bytes gives.
-use Prim.Native.Nat.{ℕ, zero, suc, _+_, _-_, _*_, _/_, _<_, _≤_}
+use Prim.Native.Nat.{ℕ, suc, _+_, _-_, _*_, _/_, _<_, _≤_}
 use mathlib.Core.List.{List, [], _∷_, _++_, map, append-nil}
 use mathlib.Core.Path.{_≡_, refl, sym, ap, ap₂, subst⁻¹, _∙_}
 use native.Mathlib.Nat.{sub-zero}

@@ -1,7 +1,7 @@
 -- Levels of a chunk tree: how many nodes a level has, that a count that suffices ends in one node (`climb-ends`), and that more changes
 -- nothing; so the top of a level is the top of the next, `top-up`.
-use Prim.Native.Nat.{ℕ, zero, suc, _+_, _-_, _*_, _/_, _<_, _≤_}
-use mathlib.Core.List.{List, [], _∷_, _++_, map}
+use Prim.Native.Nat.{ℕ, zero, suc, _+_, _-_, _/_, _<_, _≤_}
+use mathlib.Core.List.{List, [], _∷_, map}
 use mathlib.Core.Path.{_≡_, refl, sym, ap, _∙_}
 use native.Mathlib.Omega.{arith}
 use lib.ListN.{length, getD, take, drop}
@@ -18,14 +18,7 @@ length-up [] = refl
 length-up (n ∷ []) = refl
 length-up (l ∷ r ∷ ns) = omega (arith, length-up ns)
 
--- the first node of the next level, and the rest of it above the rest
-pub up-cons : (ns : List Node) → 0 < length ns → up ns ≡ getD (up ns) 0 [] ∷ up (drop 2 ns)
-unfolding up
-up-cons [] h = absurd (omega arith)
-up-cons (n ∷ []) h = refl
-up-cons (l ∷ r ∷ ns) h = refl
-
--- the same where the nodes are pieces
+-- the first node of the next level, and the rest of it above the rest of the nodes, where these are pieces
 pub up-pieces : (n k : ℕ) (xs : List ℕ) → 0 < k →
     up (pieces n k xs) ≡ getD (up (pieces n k xs)) 0 [] ∷ up (pieces n (k - 2) (drop (n + n) xs))
 unfolding up pieces

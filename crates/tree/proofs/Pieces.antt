@@ -4,7 +4,7 @@ use mathlib.Core.List.{List, [], _∷_, _++_, append-assoc}
 use mathlib.Core.Path.{_≡_, refl, sym, ap, ap₂, _∙_}
 use native.Mathlib.Nat.{zero-mul, suc-mul, add-comm}
 use native.Mathlib.Omega.{arith}
-use lib.ListN.{length, take, drop, length-append, length-take, length-drop, take-append-drop}
+use lib.ListN.{length, take, drop, length-append, length-drop, take-append-drop}
 use lib.Seq.{length-take-le, take-append-le, drop-append-le, drop-append-add, drop-drop, take-at, drop-at}
 use Rattle.fips.specs.Bits.{pieces}
 use Rattle.tree.specs.Root.{nodeBytes, Node}
@@ -37,6 +37,19 @@ pieces-front n (suc k) xs ys h =
     let e = suc-mul k n in
     rw (take-append-le n xs ys (omega arith), drop-append-le n xs ys (omega arith))
     (ap (λ (l : List (List ℕ)). take n xs ∷ l) (pieces-front n k (drop n xs) ys (simp length-drop (omega arith))))
+
+abbrev pub joined : List (List ℕ) → List ℕ
+joined [] = []
+joined (p ∷ ps) = p ++ joined ps
+
+-- pieces that are enough leave nothing out
+pub pieces-join : (n k : ℕ) (xs : List ℕ) → length xs ≤ k * n → joined (pieces n k xs) ≡ xs
+unfolding pieces
+pieces-join n zero [] h = refl
+pieces-join n zero (x ∷ xs) h = absurd (omega (arith, zero-mul n))
+pieces-join n (suc k) xs h =
+    let fewer : length (drop n xs) ≤ k * n = simp length-drop (omega (arith, suc-mul k n)) in
+    ap (λ (l : List ℕ). take n xs ++ l) (pieces-join n k (drop n xs) fewer) ∙ take-append-drop n xs
 
 -- ---- nodes in a buffer
 

@@ -1,15 +1,15 @@
 -- The root of a chunk tree: 32 bytes (`length-root`), the hash of the empty message over no bytes (`root-empty`), the leaf of one chunk.
-use Prim.Native.Nat.{ℕ, zero, suc, _+_, _/_, _<_, _≤_}
+use Prim.Native.Nat.{ℕ, _<_, _≤_}
 use mathlib.Core.List.{List, [], _∷_, map}
-use mathlib.Core.Path.{_≡_, refl, sym, ap, _∙_}
+use mathlib.Core.Path.{_≡_, refl, ap, _∙_}
 use native.Mathlib.Omega.{arith}
-use lib.ListN.{length, take, drop}
+use lib.ListN.{length, take}
 use lib.Seq.{take-all}
 use Rattle.fips.specs.Bits.{pieces}
 use Rattle.tree.specs.Root.{chunkBytes, nodeBytes, chunkCount, Node, sha256, chunks, leaf, climb, top, root}
 use Rattle.tree.specs.Held.{held}
 use Rattle.tree.proofs.Levels.{leaves-whole, length-top, top-one}
-use Rattle.tree.proofs.Pieces.{length-pieces}
+use Rattle.tree.proofs.Pieces.{length-pieces, joined, pieces-join}
 
 pub length-root : (bytes : List ℕ) → length (root bytes) ≡ nodeBytes
 unfolding root
@@ -26,6 +26,11 @@ root-none (b ∷ bytes) e = absurd (omega arith)
 pub length-chunks : (bytes : List ℕ) → length (chunks bytes) ≡ chunkCount (length bytes)
 unfolding chunks
 length-chunks bytes = length-pieces chunkBytes (chunkCount (length bytes)) bytes
+
+-- the chunks are the bytes, one after the other
+pub chunks-join : (bytes : List ℕ) → joined (chunks bytes) ≡ bytes
+unfolding chunks
+chunks-join bytes = pieces-join chunkBytes (chunkCount (length bytes)) bytes (omega arith)
 
 pub root-one-chunk : (bytes : List ℕ) → 0 < length bytes → length bytes ≤ chunkBytes → root bytes ≡ leaf bytes
 unfolding root chunks pieces

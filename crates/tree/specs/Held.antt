@@ -9,6 +9,7 @@ use Rattle.tree.specs.Root.{nodeBytes, Node}
 abbrev pub held : ℕ → List ℕ → List Node
 held count buffer = pieces nodeBytes count buffer
 
+-- the node at place i
 abbrev pub nodeAt : ℕ → List ℕ → Node
 nodeAt i buffer = take nodeBytes (drop (i * nodeBytes) buffer)
 

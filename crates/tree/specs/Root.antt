@@ -26,6 +26,7 @@ sha256 bytes = digest 2 (message bytes 0 0)
 abbrev pub chunkCount : ℕ → ℕ
 chunkCount n = (n + (chunkBytes - 1)) / chunkBytes
 
+-- chunks of 1,024 bytes, the last of what is left
 unfoldable pub chunks : List ℕ → List (List ℕ)
 chunks bytes = pieces chunkBytes (chunkCount (length bytes)) bytes
 
@@ -58,5 +59,6 @@ climb (suc k) ns = climb k (higher ns)
 unfoldable pub top : List Node → Node
 top ns = getD (climb (length ns) ns) 0 (sha256 [])
 
+-- the root of the tree over the chunks of the bytes
 unfoldable pub root : List ℕ → Node
 root bytes = top (map leaf (chunks bytes))

@@ -6,9 +6,10 @@ ghost use lib.ListN.{length, take};
 ghost use Rattle.tree.specs.Root.{sha256, chunkBytes, leaf as leafOf, parent as parentOf};
 use sha2::front::put_front;
 
-// What a leaf's message and a parent's begin with, so that neither is ever the other's.
+// What a leaf's message begins with, so that it is never a parent's.
 const LEAF: u8 = 0;
 
+// And a parent's.
 const PARENT: u8 = 1;
 
 fn hash(message: &[u8]) -> [u8; 32]

@@ -1,6 +1,6 @@
 // The tree of a whole map: its leaves in a buffer of nodes, then one level after the other in their place, up to the root.
 ghost use mathlib.Core.Path.{_≡_};
-ghost use mathlib.Core.List.{[], _∷_, map as each};
+ghost use mathlib.Core.List.{[], map as each};
 ghost use Prim.Native.Nat.{_+_, _*_, _/_, _<_, _≤_};
 ghost use lib.ListN.{length, take, getD};
 ghost use Rattle.answers.specs.Judged.{Judged};
@@ -14,7 +14,7 @@ use crate::node::parent;
 use answers::Answer;
 use sha2::front::put_front;
 
-// House: at most 1 MiB, which is 1,024 chunks.
+// House: at most 1 MiB, which is the 1,024 chunks that the buffer of nodes has room for.
 const LIMIT: usize = 1_048_576;
 
 fn node_at(nodes: &[u8], i: usize) -> [u8; 32]
@@ -28,6 +28,7 @@ fn node_at(nodes: &[u8], i: usize) -> [u8; 32]
     node
 }
 
+// The node in its place, and every other byte as it was.
 fn put_node(nodes: &mut [u8], i: usize, node: [u8; 32])
     requires { ⌜ i * nodeBytes + nodeBytes ≤ length (now nodes) ⌝ }
     ensures { λ _. ⌜ now (nodes .exit) ≡ withNode i node (now (nodes .entry)) ⌝ }
@@ -90,6 +91,7 @@ fn leaves(map: &[u8], count: usize, nodes: &mut [u8])
     }
 }
 
+// The root of a map within the limit.
 fn root(map: &[u8]) -> [u8; 32]
     requires { ⌜ length (now map) ≤ limit ⌝ }
     ensures { λ r. ⌜ r ≡ rootOf (now (map .entry)) ⌝ }

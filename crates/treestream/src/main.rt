@@ -23,7 +23,7 @@ fn wide(b: u8) -> usize {
     b as usize
 }
 
-// The root of a map in an output of `size` bytes, and writes the answer and the output.
+// Makes the tree of a map in an output of `size` bytes, and writes the answer and the output.
 fn answer(map: &[u8], size: usize) -> bool {
     let mut out = [0x5au8; 64];
     let answer = tree::whole::tree(map, room(&mut out, size));

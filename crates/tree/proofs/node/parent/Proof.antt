@@ -5,7 +5,7 @@ use native.Mathlib.Omega.{arith}
 use lib.ListN.{length, length-append}
 use borrow.Author.Needs.{needs}
 use Rattle.tree.specs.Root.{sha256, parent}
-use Rattle.tree.proofs.Hashes.{joined, parent-message}
+use Rattle.tree.proofs.Hashes.{behind, parent-message}
 use Rattle.tree.proofs.node.parent.Statement.{statement}
 use Rattle.tree.proofs.node.parent.Tie as tie
 
@@ -25,7 +25,7 @@ right-long : (c : tie.After-message5) → length (start c .args .t2) ≡ 32
 right-long c = search needs
 
 made : (c : tie.After-message5) →
-    joined 1 (c .before .before .before .before .before .before .put-front .last .0) (c .before .before .put-front2 .last .0)
+    behind 1 (c .before .before .before .before .before .before .put-front .last .0) (c .before .before .put-front2 .last .0)
     ≡ 1 ∷ (start c .args .t1 ++ start c .args .t2)
 made c =
     parent-message 1 (start c .args .t1) (start c .args .t2) _ (left-long c) (right-long c) refl

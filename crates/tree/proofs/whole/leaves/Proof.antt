@@ -1,6 +1,6 @@
 -- `tree::whole::leaves` meets its contract. The invariant: i leaves are in place, and the leaves of the rest of the map follow them.
 -- The measure is how many are left. Assumes nothing.
-use Prim.Native.Nat.{ℕ, _-_}
+use Prim.Native.Nat.{_-_}
 use mathlib.Core.Path.{_≡_}
 use native.Mathlib.Omega.{arith}
 use lib.ListN.{length}

@@ -1,6 +1,6 @@
 -- `tree::whole::level` meets its contract. The invariant: j nodes of the level above are in place, and the level above the rest follows
 -- them. The measure is how many nodes are left. Assumes nothing.
-use Prim.Native.Nat.{ℕ, _-_, _*_}
+use Prim.Native.Nat.{_-_, _*_}
 use mathlib.Core.Path.{_≡_}
 use native.Mathlib.Omega.{arith}
 use lib.ListN.{length, length-take, length-drop}

@@ -1,7 +1,5 @@
 -- `tree::whole::rise` meets its contract. The invariant: the node above those that are left is the node above all. The measure is how
 -- many are left. Assumes nothing.
-use Prim.Native.Nat.{ℕ}
-use mathlib.Core.Path.{_≡_}
 use native.Mathlib.Omega.{arith}
 use Rattle.tree.proofs.InPlace.{Climbed, climbed-none, climbed-more, climbed-all}
 use Rattle.tree.proofs.whole.rise.Statement.{statement}
