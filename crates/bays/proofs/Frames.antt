@@ -1,17 +1,17 @@
 -- One bay written, and everything else as it was. The bay itself: `bayAt-putBay`; any other: `bayAt-other`.
 -- The header, the length and the caller's words: `putBay-header`, `headed-putBay`, `length-putBay`, `putBay-past`.
-use Prim.Native.Nat.{ℕ, _+_, _-_, _*_, _<_, _≤_}
+use Prim.Native.Nat.{ℕ, _+_, _-_, _<_, _≤_}
 use mathlib.Core.Bool.{true}
 use mathlib.Core.List.{List, [], _∷_, _++_}
-use mathlib.Core.Path.{_≡_, refl, sym, ap, _∙_}
+use mathlib.Core.Path.{_≡_, sym, ap, _∙_}
 use native.Mathlib.Decide.{decLt}
+use native.Mathlib.Nat.{add-sub-cancel-left}
 use native.Mathlib.Omega.{arith}
 use lib.Dec.{leb, eqb}
 use lib.ListN.{length, take, drop, getD, length-append, length-take, length-drop, take-append-drop}
 use lib.Seq.{take-at, drop-at, take-append-le, drop-append-le, take-take, drop-drop, getD-take, length-take-le}
-use borrow.Author.Tests.{leb-true, eqb-true, le-leb, eq-eqb}
-use Rattle.halfread.specs.Lists.{holds}
-use Rattle.halfread.proofs.Lists.{holds-at, at-holds}
+use borrow.Author.Tests.{leb-true}
+use Rattle.halfread.proofs.Lists.{holds-at}
 use Rattle.bigendian.specs.BigEndian.{Below}
 use Rattle.bigendian.proofs.Below.{below-take, below-drop, below-append}
 use Rattle.bays.specs.Table.{firstBay, bayWords, mostBays, placeOf, baysOf, roomFor, headed, bayAt, putBay}
@@ -147,3 +147,17 @@ below-putBay t i b h k =
 pub putBay-same : (t : List ℕ) (i : ℕ) → putBay t i (bayAt t i) ≡ t
 unfolding putBay bayAt
 putBay-same t i = rw (take-append-drop bayWords (drop (placeOf i) t)) (take-append-drop (placeOf i) t)
+
+-- ---- as the code has it: the part from the place `at` on, lent and come back
+
+pub part-at : (t : List ℕ) (i at : ℕ) → at ≡ placeOf i → take (at + bayWords - at) (drop at t) ≡ bayAt t i
+unfolding bayAt
+part-at t i at e = rw (add-sub-cancel-left at bayWords, e)
+
+pub part-back : (t b : List ℕ) (i at : ℕ) → at ≡ placeOf i → take at t ++ (b ++ drop (at + bayWords - at) (drop at t)) ≡ putBay t i b
+unfolding putBay
+part-back t b i at e = rw (add-sub-cancel-left at bayWords, e)
+
+pub length-part : (t : List ℕ) (i at : ℕ) → at ≡ placeOf i → placeOf i + bayWords ≤ length t →
+    length (take (at + bayWords - at) (drop at t)) ≡ bayWords
+length-part t i at e h = ap length (part-at t i at e) ∙ length-bayAt t i h

@@ -3,13 +3,15 @@
 use Prim.Native.Nat.{ℕ, _+_, _-_, _*_, _<_, _≤_}
 use mathlib.Core.Bool.{true}
 use mathlib.Core.List.{List, [], _∷_, _++_, append-assoc}
-use mathlib.Core.Path.{_≡_, refl, sym, ap, _∙_}
+use mathlib.Core.Path.{_≡_, refl, ap, _∙_}
+use native.Mathlib.Nat.{add-sub-cancel-left}
 use native.Mathlib.Omega.{arith}
-use lib.ListN.{length, take, drop, replicate, length-append, length-drop, length-replicate, replicate-append-replicate}
-use lib.Seq.{take-at, drop-at, drop-append-add}
+use lib.ListN.{length, take, drop, set, replicate, length-append, length-take, length-drop, length-set}
+use lib.ListN.{length-replicate, replicate-append-replicate}
+use lib.Seq.{take-at, drop-at, drop-drop, drop-append-add}
 use Rattle.bays.specs.Table.{firstBay, bayWords, placeOf, baysOf, roomFor, headed, bayAt, laidOut}
 use Rattle.bays.specs.Bay.{emptyBay}
-use Rattle.bays.proofs.Frames.{Room, room-of, headed-of}
+use Rattle.bays.proofs.Frames.{room-of, headed-of}
 
 abbrev head : ℕ → List ℕ
 head n = n ∷ firstBay ∷ bayWords ∷ 0 ∷ []
@@ -63,3 +65,29 @@ module _ (n : ℕ) (t : List ℕ) where
         drop-at (zeros (bayWords * i)) (emptyBay ++ after ++ rest) (bayWords * i) (length-replicate (bayWords * i) 0),
       )
       (take-at emptyBay (after ++ rest) bayWords refl)
+
+-- ---- as the code has it: four words set, and the part behind them lent and come back as zeros
+
+head-set : (t : List ℕ) (n : ℕ) → firstBay ≤ length t →
+    (take 4 (set (set (set (set t 0 n) 1 4) 2 26) 3 0) ≡ head n) × (drop 4 (set (set (set (set t 0 n) 1 4) 2 26) 3 0) ≡ drop 4 t)
+head-set [] n h = absurd (omega arith)
+head-set (a ∷ []) n h = absurd (omega arith)
+head-set (a ∷ b ∷ []) n h = absurd (omega arith)
+head-set (a ∷ b ∷ c ∷ []) n h = absurd (omega arith)
+head-set (a ∷ b ∷ c ∷ d ∷ t) n h = (refl, refl)
+
+module _ (t : List ℕ) (n : ℕ) (room : placeOf n ≤ length t) where
+  abbrev begun : List ℕ
+  begun = set (set (set (set t 0 n) 1 firstBay) 2 bayWords) 3 0
+
+  pub begun-room : placeOf n ≤ length begun
+  begun-room = simp length-set room
+
+  pub laid-out : (new : List ℕ) → new ≡ zeros (length (take (placeOf n - firstBay) (drop firstBay begun))) →
+      take firstBay begun ++ (new ++ drop (placeOf n - firstBay) (drop firstBay begun)) ≡ laidOut n t
+  unfolding laidOut
+  laid-out new e =
+      let set4 = head-set t n (omega arith) in
+      let long : length (take (placeOf n - firstBay) (drop firstBay begun)) ≡ bayWords * n =
+      simp (length-take, length-drop) (omega (arith, begun-room)) in
+      rw (e, long, set4 .0, set4 .1, add-sub-cancel-left firstBay (bayWords * n), drop-drop (bayWords * n) firstBay t)

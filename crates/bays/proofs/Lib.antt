@@ -1,6 +1,12 @@
+-- Laws of the table of bays; each function's folder cites them. Follows, Ledger, Alike and CallersWords hold the promise.
 pub mod Frames
 pub mod LaidOut
 pub mod Packing
+pub mod Header
+pub mod Refusals
+pub mod Judging
+pub mod Outcomes
+pub mod Runs
 pub mod Entries
 pub mod Follows
 pub mod Ledger

@@ -1,22 +1,22 @@
 -- A bay's 26 words and the half-read message that they hold: each makes the other, `halfOf-bayOf` and `bayOf-halfOf`.
 -- A bay is empty where it is 26 zeros, `empty-zeros` and `zeros-empty`; what an empty bay holds is not sound.
-use Prim.Native.Nat.{ℕ, zero, suc, _+_, _-_, _*_, _^_, _<_, _≤_}
-use mathlib.Core.Bool.{Bool, true, false, not, _||_, false≢true}
+use Prim.Native.Nat.{ℕ, _-_, _*_, _^_, _≤_}
+use mathlib.Core.Bool.{Bool, true, false, false≢true}
 use mathlib.Core.List.{List, [], _∷_, _++_, map, append-nil}
-use mathlib.Core.Path.{_≡_, refl, sym, ap, ap₂, _∙_}
+use mathlib.Core.Path.{_≡_, refl, sym, ap, _∙_}
 use native.Mathlib.Omega.{arith}
-use lib.Dec.{eqb}
-use lib.ListN.{length, take, drop, getD, set, replicate, length-append, length-take, length-drop, length-set, take-append-drop, drop-of-length-le}
+use lib.ListN.{length, take, drop, getD, set, replicate, length-append, length-take, length-drop, length-set}
+use lib.ListN.{take-append-drop, drop-of-length-le}
 use lib.Seq.{take-at, drop-at, drop-cons, drop-drop, take-all}
 use Rattle.bigendian.specs.BigEndian.{be, Below, Bytes, word64}
 use Rattle.bigendian.specs.Words.{fromWords, toWords, withWords}
 use Rattle.bigendian.proofs.Below.{below-cons, below-append, below-take, below-drop}
-use Rattle.bigendian.proofs.Words.{length-fromWords, fromWords-bytes, length-toWords, toWords-below, toWords-fromWords, toWords-word64, fromWords-toWords-all, withWords-all}
+use Rattle.bigendian.proofs.Words.{length-fromWords, fromWords-bytes, length-toWords, toWords-below}
+use Rattle.bigendian.proofs.Words.{toWords-fromWords, toWords-word64, fromWords-toWords-all, withWords-all}
 use Rattle.fips.specs.Editions.{known}
 use Rattle.sha2.specs.AtFront.{atFront}
 use Rattle.sha2.proofs.AtFront.{atFront-room}
 use Rattle.halfread.specs.declared.HalfRead.{HalfRead}
-use Rattle.halfread.specs.Lists.{every, allZero}
 use Rattle.halfread.specs.State.{Shaped, sound, blank}
 use Rattle.halfread.proofs.Lists.{allZero-zeros, zeros-allZero}
 use Rattle.bays.specs.Table.{bayWords}
@@ -76,34 +76,22 @@ module _ (b : List ℕ) (fits : length b ≡ bayWords) (words : Below (2 ^ 64) b
 
 -- ---- as the code has it
 
-pub eight-words : (b : List ℕ) → length b ≡ bayWords →
-    getD b 2 0 ∷ getD b 3 0 ∷ getD b 4 0 ∷ getD b 5 0 ∷ getD b 6 0 ∷ getD b 7 0 ∷ getD b 8 0 ∷ getD b 9 0 ∷ [] ≡ take 8 (drop 2 b)
-eight-words b fits =
-    rw (
-      drop-cons b 2 0 (omega arith),
-      drop-cons b 3 0 (omega arith),
-      drop-cons b 4 0 (omega arith),
-      drop-cons b 5 0 (omega arith),
-      drop-cons b 6 0 (omega arith),
-      drop-cons b 7 0 (omega arith),
-      drop-cons b 8 0 (omega arith),
-      drop-cons b 9 0 (omega arith),
-    )
-
--- the tail's bytes over 128 others
-pub unpacked : (b words tail old : List ℕ) → length b ≡ bayWords → length old ≡ 128 → words ≡ take 8 (drop 2 b) →
-    tail ≡ withWords 8 (take (length b - 10) (drop 10 b)) old →
-    halfOf b ≡ record { edition = getD b 0 0; count = getD b 1 0; words = words; tail = tail }
-unfolding halfOf
-unpacked b words tail old fits long w t =
-    let all : take (length b - 10) (drop 10 b) ≡ drop 10 b = take-all (length b - 10) (drop 10 b) (rw (length-drop 10 b) (omega arith)) in
-    let room : length old ≡ length (drop 10 b) * 8 = rw (length-drop 10 b, fits) long in
-    let bytes : tail ≡ fromWords 8 (drop 10 b) =
-    t ∙ ap (λ (l : List ℕ). withWords 8 l old) all ∙ withWords-all 8 (drop 10 b) old (omega arith) room in
-    rw (w, bytes)
-
 atFront-all : (xs old : List ℕ) → length xs ≡ length old → atFront xs old ≡ xs
 atFront-all xs old e = atFront-room xs old (omega arith) ∙ rw (drop-of-length-le old {i = length xs} (omega arith), append-nil)
+
+-- eight words copied over eight others, and the bytes of sixteen put over 128
+pub unpacked : (b words tail eight old : List ℕ) → length b ≡ bayWords → length eight ≡ 8 → length old ≡ 128 →
+    words ≡ atFront (take 8 (drop 2 b)) eight → tail ≡ withWords 8 (take (length b - 10) (drop 10 b)) old →
+    halfOf b ≡ record { edition = getD b 0 0; count = getD b 1 0; words = words; tail = tail }
+unfolding halfOf
+unpacked b words tail eight old fits e long w t =
+    let part : length (take 8 (drop 2 b)) ≡ length eight = simp (length-take, length-drop, fits) (sym e) in
+    let all : take (length b - 10) (drop 10 b) ≡ drop 10 b = take-all (length b - 10) (drop 10 b) (rw (length-drop 10 b) (omega arith)) in
+    let room : length old ≡ length (drop 10 b) * 8 = rw (length-drop 10 b, fits) long in
+    let chain : words ≡ take 8 (drop 2 b) = w ∙ atFront-all (take 8 (drop 2 b)) eight part in
+    let bytes : tail ≡ fromWords 8 (drop 10 b) =
+    t ∙ ap (λ (l : List ℕ). withWords 8 l old) all ∙ withWords-all 8 (drop 10 b) old (omega arith) room in
+    rw (chain, bytes)
 
 two-set : (b : List ℕ) (e c : ℕ) → 2 ≤ length b → take 2 (set (set b 0 e) 1 c) ≡ e ∷ c ∷ []
 two-set [] e c h = absurd (omega arith)
@@ -111,7 +99,7 @@ two-set (x ∷ []) e c h = absurd (omega arith)
 two-set (x ∷ y ∷ xs) e c h = refl
 
 -- two words set, eight copied, sixteen made of the tail: each part behind the ones before it
-module _ (b : List ℕ) (e c : ℕ) (words copied tail new : List ℕ) (fits : length b ≡ bayWords) (eight : length words ≡ 8)
+module _ (b : List ℕ) (e c : ℕ) (words copied : List ℕ) (fits : length b ≡ bayWords) (eight : length words ≡ 8)
     (came : copied ≡ atFront words (take 8 (drop 2 (set (set b 0 e) 1 c)))) where
   abbrev begun : List ℕ
   begun = set (set b 0 e) 1 c
@@ -137,9 +125,10 @@ module _ (b : List ℕ) (e c : ℕ) (words copied tail new : List ℕ) (fits : l
   front-ten =
       rw (front-two, copied-is) (ap (λ (l : List ℕ). e ∷ c ∷ l) (take-at words (drop 8 (drop 2 begun)) 8 eight))
 
-  pub packed : Bytes tail → new ≡ map word64 (toWords (length (take (length half-done - 10) (drop 10 half-done))) 8 tail) →
+  pub packed : (tail new : List ℕ) → Bytes tail →
+      new ≡ map word64 (toWords (length (take (length half-done - 10) (drop 10 half-done))) 8 tail) →
       take 10 half-done ++ (new ++ drop (length half-done - 10) (drop 10 half-done)) ≡ e ∷ c ∷ (words ++ toWords 16 8 tail)
-  packed bytes made =
+  packed tail new bytes made =
       let rest : length (drop 10 half-done) ≡ length half-done - 10 = length-drop 10 half-done in
       let part : length (take (length half-done - 10) (drop 10 half-done)) ≡ 16 =
       length-take (length half-done - 10) (drop 10 half-done) ∙ omega (arith, rest, half-long) in

@@ -1,7 +1,13 @@
+-- Laws of a half-read message; each function's folder cites them.
 pub mod Lists
 pub mod Sizes
 pub mod Fields
 pub mod Rules
 pub mod Tails
 pub mod Soundness
+pub mod Adding
+pub mod Filling
 pub mod Records
+pub mod RecordLayout
+pub mod RecordFields
+pub mod Loading

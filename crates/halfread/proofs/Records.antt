@@ -1,12 +1,13 @@
 -- The saved record and the state: document 01, "The saved record". `saved-loads`: the record of a sound state loads, as that state.
 -- `loaded-saves`: a record that loads is the record of what it loads. `one-record`: so each state has exactly one.
-use Prim.Native.Nat.{ℕ, _+_, _*_, _^_, _≤_, _<_}
+use Prim.Native.Nat.{ℕ, zero, suc, _+_, _*_, _^_, _≤_, _<_}
 use mathlib.Core.Bool.{Bool, true, _&&_}
 use mathlib.Core.List.{List, [], _∷_, _++_, append-assoc}
 use mathlib.Core.Path.{_≡_, refl, sym, ap, ap₂, subst, _∙_}
-use native.Mathlib.Nat.{lt-of-lt-of-le, pow-le-pow-right}
+use native.Mathlib.Nat.{mul-suc, pow-suc, pow-le-pow-right}
 use native.Mathlib.Omega.{arith}
 use lib.ListN.{length, take, drop, length-append}
+use lib.Pow.{pow-add}
 use lib.Seq.{take-at, drop-at, drop-drop, take-append-le}
 use Rattle.bigendian.specs.BigEndian.{be, number, Below, Bytes}
 use Rattle.bigendian.specs.Words.{fromWords, toWords}
@@ -14,7 +15,6 @@ use Rattle.bigendian.proofs.Below.{below-append, below-take, below-drop, below-
 use Rattle.bigendian.proofs.BigEndian.{length-be, be-bytes, number-be-lt}
 use Rattle.bigendian.proofs.Words.{length-fromWords, fromWords-bytes, length-toWords, toWords-below, toWords-back}
 use Rattle.fips.specs.Editions.{width}
-use Rattle.fips.proofs.Bits.{pow-256}
 use Rattle.fips.proofs.Editions.{within-known}
 use Rattle.sha2.proofs.Digest.{bytes-within}
 use Rattle.halfread.specs.declared.HalfRead.{HalfRead}
@@ -81,6 +81,11 @@ module _ (h : HalfRead) where
       header-bytes =
           subst Bytes (sym header-parts)
           (below-append begins (be 8 (h .count) ++ ends) begins-bytes (below-append (be 8 (h .count)) ends (be-bytes 8 (h .count)) ends-bytes))
+
+-- 256 to the n is 2 to the 8 n
+pow-256 : (n : ℕ) → 256 ^ n ≡ 2 ^ (8 * n)
+pow-256 zero = refl
+pow-256 (suc n) = rw (pow-suc 256 n, pow-256 n, mul-suc 8 n, pow-add 2 (8 * n) 8)
 
 -- ---- loading any bytes
 

@@ -41,24 +41,31 @@ zeros-behind h e long =
     allZero-zeros (drop (held h) (h .tail)) (sound-kept h e .zero)
     ∙ ap (λ (n : ℕ). replicate n 0) (length-drop (held h) (h .tail) ∙ ap (λ (n : ℕ). n - held h) long)
 
-pub sound-facts : (h : HalfRead) → sound h ≡ true → Shaped h → Sound h
+pub sound-limited : (h : HalfRead) → sound h ≡ true → h .count ≤ limit
+sound-limited h e = leb-true (h .count) limit (sound-kept h e .short)
+
+-- of the shape only the tail's length counts
+pub facts-of : (h : HalfRead) → sound h ≡ true → length (h .tail) ≡ 128 → Sound h
 unfolding sound
-sound-facts h e s =
+facts-of h e long =
     let k = sound-kept h e in
     record {
       known = k .known;
-      limited = leb-true (h .count) limit (k .short);
+      limited = sound-limited h e;
       below = allBelow-below (2 ^ word (width (h .edition))) (h .words) (pow-pos (word (width (h .edition)))) (k .below);
       tail =
           sym (take-append-drop (held h) (h .tail))
           ∙ ap (λ (l : List ℕ). pending h ++ l)
-          (zeros-behind h e (s .wide) ∙ ap (λ (n : ℕ). replicate (128 - n) 0) (sym (length-pending h (s .wide))))
-          ∙ sym (padded-room (pending h) (omega (arith, length-pending h (s .wide), held-within h)));
+          (zeros-behind h e long ∙ ap (λ (n : ℕ). replicate (128 - n) 0) (sym (length-pending h long)))
+          ∙ sym (padded-room (pending h) (omega (arith, length-pending h long, held-within h)));
       begun = λ p. same→≡ (h .words) (start (h .edition)) (either (lt-leb (block h) (h .count) p) (holds-at (rules h) e 4));
     }
   where
     either : {a b : Bool} → a ≡ false → (a || b) ≡ true → b ≡ true
     either p q = rw p at q
+
+pub sound-facts : (h : HalfRead) → sound h ≡ true → Shaped h → Sound h
+sound-facts h e s = facts-of h e (s .wide)
 
 pub facts-sound : (h : HalfRead) → Shaped h → Sound h → sound h ≡ true
 facts-sound h s f = go (decLe (block h) (h .count))

@@ -5,8 +5,8 @@ use mathlib.Core.Path.{_≡_, refl, sym, ap, ap₂, _∙_}
 use native.Mathlib.Nat.{sub-zero, zero-sub, suc-sub-suc}
 use native.Mathlib.Omega.{arith}
 use lib.Dec.{lit<}
-use lib.ListN.{length, take, drop, replicate, length-append, length-replicate, length-drop, drop-of-length-le}
-use lib.Seq.{take-all, take-at, drop-at, take-append-add, length-take-le}
+use lib.ListN.{length, take, drop, replicate, length-append, length-replicate, length-take, length-drop, drop-of-length-le}
+use lib.Seq.{take-all, take-at, drop-at, take-append-add, take-append-le, take-take, length-take-le}
 use Rattle.bigendian.specs.BigEndian.{Bytes}
 use Rattle.bigendian.proofs.Below.{below-append, below-take, below-replicate}
 use Rattle.sha2.specs.AtFront.{atFront}
@@ -55,6 +55,13 @@ padded-room bs h = front-room 128 bs h
 
 pub take-padded : (bs : List ℕ) (n : ℕ) → n ≤ 128 → length bs ≡ n → take n (padded bs) ≡ bs
 take-padded bs n h e = ap (take n) (padded-room bs (omega arith)) ∙ take-at bs (replicate (128 - length bs) 0) n e
+
+-- the front of what was padded, whether it had room or not
+pub front-padded : (bs : List ℕ) (m : ℕ) → m ≤ 128 → m ≤ length bs → take m (padded bs) ≡ take m bs
+front-padded bs m h k =
+    ap (take m) (front-zeros 128 bs)
+    ∙ take-append-le m (take 128 bs) (replicate (128 - length bs) 0) (rw (length-take 128 bs) (omega arith))
+    ∙ take-take m 128 bs h
 
 pub drop-padded : (bs : List ℕ) (n : ℕ) → n ≤ 128 → length bs ≡ n → drop n (padded bs) ≡ replicate (128 - n) 0
 drop-padded bs n h e =

@@ -1,0 +1,72 @@
+-- `bays::calls::open` meets its contract: the gate, the edition, the bay, and the opened message packed into it. Assumes nothing.
+use mathlib.Core.Bool.{true}
+use mathlib.Core.Path.{_≡_, sym, ap, _∙_}
+use borrow.Author.Needs.{needs}
+use Rattle.answers.specs.Judged.{first}
+use Rattle.answers.specs.Numbers.{numberOf}
+use Rattle.fips.specs.Editions.{known}
+use Rattle.sha2.proofs.AtOnce.{size-unknown, size-known}
+use Rattle.halfread.specs.declared.HalfRead.{HalfRead}
+use Rattle.bays.specs.Table.{putBay}
+use Rattle.bays.specs.Bay.{bayOf}
+use Rattle.bays.specs.Calls.{gateTests}
+use Rattle.bays.proofs.Header.{gate-passed}
+use Rattle.bays.proofs.Judging.{open-stopped, open-unknown, open-refused, opened-at}
+use Rattle.bays.proofs.Refusals.{refuses}
+use Rattle.bays.proofs.calls.open.Statement.{statement}
+use Rattle.bays.proofs.calls.open.Tie as tie
+
+returns : tie.Need-returns
+returns c =
+    let s = c .before .before .before .before in
+    open-stopped (s .args .table .now) (s .args .bay) (c .before .gate .result) (c .before .gate .ensures)
+    (refuses (c .before .gate .result) (c .match .keys2)) (s .args .edition)
+
+abbrev start : tie.After-enum-told → tie.Start
+start c = c .before .before .before .before .before
+
+passed : (c : tie.After-enum-told) → first (gateTests (start c .args .table .now) (start c .args .bay)) ≡ 0
+passed c = sym (c .before .before .gate .ensures) ∙ ap numberOf (c .enum-told .given .1)
+
+returns-2 : tie.Need-returns-2
+returns-2 c =
+    let e = c .before .before in
+    let s = start e in
+    open-unknown (s .args .table .now) (s .args .bay) (passed e) (s .args .edition)
+    (size-unknown _ _ (c .before .digest-bytes .ensures) (c .if1 .taken))
+
+is-known : (c : tie.Else1) → known (start (c .before .before) .args .edition) ≡ true
+is-known c = size-known _ _ (c .before .digest-bytes .ensures) (c .if1 .left)
+
+vacancy-requires : tie.Need-vacancy-requires
+vacancy-requires c κs = gate-passed _ _ (passed (c .before .before .before)) .whole
+
+returns-3 : tie.Need-returns-3
+returns-3 c =
+    let f = c .before .before .before in
+    let e = f .before .before in
+    let s = start e in
+    open-refused (s .args .table .now) (s .args .bay) (passed e) (s .args .edition) (is-known f) (c .before .vacancy .result)
+    (c .before .vacancy .ensures) (refuses (c .before .vacancy .result) (c .match2 .keys2))
+
+put-at-requires : tie.Need-put-at-requires
+put-at-requires c κs = gate-passed _ _ (passed (c .before .before .before .before .before .before .before .before)) .whole
+
+returns-4 : tie.Need-returns-4
+returns-4 c =
+    let p = c .before .before in
+    let v = p .before .before .before .before .before in
+    let f = v .before .before in
+    let e = f .before .before in
+    let s = start e in
+    opened-at (s .args .table .now) (s .args .bay) (passed e) (s .args .edition) (is-known f)
+    (sym (v .vacancy .ensures) ∙ ap numberOf (p .before .before .before .enum-told2 .given .1))
+    (p .put-at .last .0)
+    (p .put-at .ensures ∙ ap (λ (h : HalfRead). putBay (s .args .table .now) (s .args .bay) (bayOf h)) (p .before .open .ensures))
+
+pub open-spec : {M : Type 1} → statement M
+open-spec =
+    tie.close
+    (tie.spec (λ c κs. search needs) (λ c. search needs) (λ c. search needs) returns (λ c κs. search needs)
+    (λ c. search needs) returns-2 vacancy-requires (λ c. search needs) (λ c. search needs) returns-3
+    (λ c κs. search needs) put-at-requires (λ c. search needs) returns-4)

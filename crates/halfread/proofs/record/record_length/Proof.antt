@@ -1,0 +1,17 @@
+-- `halfread::record::record_length` meets its contract: a record has at most 215 bytes. Assumes nothing.
+use Prim.Native.Nat.{_+_}
+use mathlib.Core.Path.{ap₂}
+use native.Mathlib.Omega.{arith}
+use borrow.Author.Needs.{needs}
+use Rattle.halfread.proofs.RecordLayout.{recordLength-within}
+use Rattle.halfread.proofs.record.record_length.Statement.{statement}
+use Rattle.halfread.proofs.record.record_length.Tie as tie
+
+add-result : tie.Need-add-result
+add-result c = omega (arith, c .before .tail-at .ensures, c .held .ensures, recordLength-within (c .before .before .args .half))
+
+returns : tie.Need-returns
+returns c = ap₂ _+_ (c .before .tail-at .ensures) (c .held .ensures)
+
+pub record-length-spec : {M : Type 1} → statement M
+record-length-spec = tie.close (tie.spec (λ c κs. search needs) (λ c κs. search needs) add-result returns)

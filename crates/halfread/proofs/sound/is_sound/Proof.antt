@@ -1,0 +1,70 @@
+-- `halfread::sound::is_sound` meets its contract: rule by rule. Assumes nothing.
+use Prim.Native.Nat.{_≤_}
+use mathlib.Core.Path.{_≡_, sym, _∙_}
+use native.Mathlib.Omega.{arith}
+use lib.ListN.{length}
+use borrow.Author.Needs.{needs}
+use borrow.Author.Tests.{le-leb, lt-leb, not-true, not-false}
+use Rattle.sha2.specs.Hash.{limit}
+use Rattle.halfread.proofs.Rules.{held-within, unsound, Kept, past-rule, start-rule, zero-rule, below-rule}
+use Rattle.halfread.proofs.sound.is_sound.Statement.{statement}
+use Rattle.halfread.proofs.sound.is_sound.Tie as tie
+
+returns : tie.Need-returns
+returns c = unsound _ 0 (sym (c .before .known .ensures) ∙ not-true _ (c .if1 .taken))
+
+returns-2 : tie.Need-returns-2
+returns-2 c = unsound _ 1 (lt-leb _ limit (c .if2 .taken))
+
+returns-3 : tie.Need-returns-3
+returns-3 c =
+    let h = c .before .before .before .before .before .before .before .args .half in
+    unsound h 2
+    (sym (below-rule (h .edition) (h .words) (c .before .before .narrow .ensures) (c .before .below-width .ensures)) ∙ not-true _ (c .if3 .taken))
+
+held-fits : (c : tie.After-held) → c .held .result ≤ 128
+held-fits c = omega (arith, c .held .ensures, held-within (c .before .before .before .before .before .before .before .before .before .args .half))
+
+tail-fits : tie.Need-part-all-zero-end
+tail-fits c =
+    let long : length (c .before .before .before .before .before .before .before .before .before .before .args .half .tail) ≡ 128 = search needs in
+    omega arith
+
+returns-4 : tie.Need-returns-4
+returns-4 c =
+    let o = c .before .before .before .before in
+    let h = o .before .before .before .before .before .before .before .before .before .args .half in
+    let long : length (h .tail) ≡ 128 = search needs in
+    unsound h 3 (sym (zero-rule h long (o .held .ensures) (c .before .all-zero .ensures)) ∙ not-true _ (c .if4 .taken))
+
+kept : (c : tie.Else4) → Kept (c .before .before .before .before .before .before .before .before .before .before .before .before .before .args .half)
+kept c =
+    let o = c .before .before .before .before in
+    let n = o .before .before .before .before in
+    let s = n .before .before .before .before .before in
+    let h = s .args .half in
+    let long : length (h .tail) ≡ 128 = search needs in
+    record {
+      known = sym (n .before .before .before .before .known .ensures) ∙ not-false _ (n .before .before .before .if1 .left);
+      short = le-leb _ _ (n .before .before .if2 .left);
+      below =
+          sym (below-rule (h .edition) (h .words) (n .narrow .ensures) (o .before .before .before .below-width .ensures))
+          ∙ not-false _ (o .before .before .if3 .left);
+      zero = sym (zero-rule h long (o .held .ensures) (c .before .all-zero .ensures)) ∙ not-false _ (c .if4 .left);
+    }
+
+returns-5 : tie.Need-returns-5
+returns-5 c = past-rule _ (kept (c .before .before)) (omega (arith, c .before .block .ensures))
+
+returns-6 : tie.Need-returns-6
+returns-6 c =
+    let w = c .before .before .before in
+    let b = w .before .before in
+    start-rule _ (kept (b .before)) (omega (arith, b .block .ensures)) (w .starting-words .ensures) (c .same-words .ensures)
+
+pub is-sound-spec : {M : Type 1} → statement M
+is-sound-spec =
+    tie.close
+    (tie.spec (λ c κs. search needs) returns returns-2 (λ c κs. search needs) (λ c κs. search needs) returns-3
+    (λ c κs. search needs) held-fits (λ c. held-fits (c .before)) tail-fits (λ c κs. search needs) returns-4
+    (λ c κs. search needs) returns-5 (λ c κs. search needs) (λ c. search needs) (λ c. search needs) (λ c κs. search needs) returns-6)
