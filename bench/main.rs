@@ -14,6 +14,9 @@ const CLOCK_PROCESS_CPUTIME_ID: i32 = 2;
 extern "C" {
     // crate bench_capi; a slice is a pointer and a length
     fn bench_hash(edition: u64, message: *const u8, count: usize, closing: u8, bits: u64, out: *mut u8, room: usize) -> u64;
+    fn bench_lay_out(table: *mut u64, words: usize, bays: u64) -> u64;
+    fn bench_open(table: *mut u64, words: usize, bay: u64, edition: u64) -> u64;
+    fn bench_add(table: *mut u64, words: usize, bay: u64, piece: *const u8, count: usize) -> u64;
     fn clock_gettime(clock: i32, time: *mut Timespec) -> i32;
 }
 
@@ -27,6 +30,28 @@ fn now() -> Duration {
 fn dwombarine(edition: u64, message: &[u8], out: &mut [u8]) {
     let number = unsafe { bench_hash(edition, message.as_ptr(), message.len(), 0, 0, out.as_mut_ptr(), out.len()) };
     assert_eq!(number, 0, "hash at once answered {number}");
+}
+
+/// The whole message through a bay, in pieces of 4,096 bytes.
+fn in_pieces(edition: u64, message: &[u8], table: &mut [u64; 30]) {
+    let numbers = unsafe {
+        [
+            bench_lay_out(table.as_mut_ptr(), table.len(), 1),
+            bench_open(table.as_mut_ptr(), table.len(), 0, edition),
+        ]
+    };
+    assert_eq!(numbers, [0, 0], "a bay is not opened");
+    for piece in message.chunks(4096) {
+        let number = unsafe { bench_add(table.as_mut_ptr(), table.len(), 0, piece.as_ptr(), piece.len()) };
+        assert_eq!(number, 0, "add answered {number}");
+    }
+}
+
+/// The same pieces, each hashed at once by itself.
+fn each_at_once(edition: u64, message: &[u8], out: &mut [u8]) {
+    for piece in message.chunks(4096) {
+        dwombarine(edition, piece, out);
+    }
 }
 
 /// Bytes that follow no pattern, the same at every run.
@@ -64,10 +89,10 @@ fn race(turns: usize, mut ours: impl FnMut(), mut theirs: impl FnMut()) -> (Dura
     (us, them)
 }
 
-fn report(name: &str, bytes: usize, (us, them): (Duration, Duration)) {
+fn report(name: &str, ours: &str, theirs: &str, bytes: usize, (us, them): (Duration, Duration)) {
     let rate = |t: Duration| bytes as f64 / t.as_secs_f64() / 1e6;
     println!(
-        "{name}: dwombarine {:.2} ms ({:.0} MB/s), plain Rust {:.2} ms ({:.0} MB/s), ratio {:.3}",
+        "{name}: {ours} {:.2} ms ({:.0} MB/s), {theirs} {:.2} ms ({:.0} MB/s), ratio {:.3}",
         us.as_secs_f64() * 1e3,
         rate(us),
         them.as_secs_f64() * 1e3,
@@ -89,6 +114,14 @@ fn main() {
 
     println!("{} bytes, best of {turns} turns", data.len());
     let keep = |d: &[u8]| assert_ne!(d[0..8], [0; 8]);
-    report("SHA-256", data.len(), race(turns, || dwombarine(2, &data, &mut out[..32]), || keep(&plain::sha256(&data))));
-    report("SHA-512", data.len(), race(turns, || dwombarine(4, &data, &mut out), || keep(&plain::sha512(&data))));
+    let (us, rust) = ("dwombarine", "plain Rust");
+    report("SHA-256", us, rust, data.len(), race(turns, || dwombarine(2, &data, &mut out[..32]), || keep(&plain::sha256(&data))));
+    report("SHA-512", us, rust, data.len(), race(turns, || dwombarine(4, &data, &mut out), || keep(&plain::sha512(&data))));
+
+    let (adds, once, pieces) = ("adds of 4,096 bytes", "the whole at once", "each piece at once");
+    let (mut table, mut other) = ([0u64; 30], [0u8; 64]);
+    report("SHA-256", adds, once, data.len(), race(turns, || in_pieces(2, &data, &mut table), || dwombarine(2, &data, &mut out[..32])));
+    report("SHA-512", adds, once, data.len(), race(turns, || in_pieces(4, &data, &mut table), || dwombarine(4, &data, &mut out)));
+    report("SHA-256", adds, pieces, data.len(), race(turns, || in_pieces(2, &data, &mut table), || each_at_once(2, &data, &mut other[..32])));
+    report("SHA-512", adds, pieces, data.len(), race(turns, || in_pieces(4, &data, &mut table), || each_at_once(4, &data, &mut other)));
 }

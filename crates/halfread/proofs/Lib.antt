@@ -11,3 +11,6 @@ pub mod Records
 pub mod RecordLayout
 pub mod RecordFields
 pub mod Loading
+pub mod Opening
+pub mod OneRecord
+pub mod Outcomes

@@ -1,8 +1,8 @@
 -- The layout of a saved record: document 01, "The saved record". How long its parts are, and that writing them one behind another makes it.
--- Main statements: `length-recordOf`, `recordOf-bytes`, and `header-law` and `record-law`, which the code cites.
+-- Main statements: `header-law` and `record-law`, which the code cites.
 use Prim.Native.Nat.{ℕ, zero, suc, _+_, _-_, _*_, _/_, _≤_, _<_}
 use mathlib.Core.List.{List, [], _∷_, _++_, append-assoc, append-nil}
-use mathlib.Core.Path.{_≡_, refl, sym, ap, ap₂, subst, _∙_}
+use mathlib.Core.Path.{_≡_, refl, sym, ap, ap₂, _∙_}
 use native.Mathlib.Omega.{arith}
 use lib.ListN.{length, take, drop, replicate, length-append, length-take, length-drop, length-replicate}
 use lib.Seq.{take-all, take-at, take-append-add, length-take-le}
@@ -57,12 +57,6 @@ length-front h e =
     length-append (header h) (fromWords (width (h .edition) .bytes) (h .words))
     ∙ ap₂ _+_ (length-header h) (length-fromWords (width (h .edition) .bytes) (h .words) ∙ ap (λ (n : ℕ). n * width (h .edition) .bytes) e)
 
-pub length-recordOf : (h : HalfRead) → Shaped h → length (recordOf h) ≡ recordLength h
-unfolding recordOf
-length-recordOf h s =
-    length-append (header h ++ fromWords (width (h .edition) .bytes) (h .words)) (pending h)
-    ∙ ap₂ _+_ (length-front h (s .eight)) (length-pending h (s .wide))
-
 -- ---- the header, in three parts
 
 pub header-parts : (h : HalfRead) → header h
@@ -71,23 +65,6 @@ unfolding fromWords
 header-parts h =
     let zeros : be 4 0 ≡ be 2 0 ++ be 2 0 = be-append 2 2 0 in
     rw zeros (simp (append-assoc, append-nil))
-
-header-bytes : (h : HalfRead) → Bytes (header h)
-header-bytes h =
-    let F = fromWords 2 (h .edition ∷ 8 ∷ wordsAt ∷ tailAt (h .edition) ∷ []) in
-    let G = fromWords 2 (held h ∷ recordLength h ∷ 0 ∷ 0 ∷ []) in
-    subst (λ (l : List ℕ). Bytes l) (sym (header-parts h))
-    (below-append (F ++ be 8 (h .count)) G
-    (below-append F (be 8 (h .count)) (fromWords-bytes 2 (h .edition ∷ 8 ∷ wordsAt ∷ tailAt (h .edition) ∷ [])) (be-bytes 8 (h .count)))
-    (fromWords-bytes 2 (held h ∷ recordLength h ∷ 0 ∷ 0 ∷ [])))
-
-pub recordOf-bytes : (h : HalfRead) → Shaped h → Bytes (recordOf h)
-unfolding recordOf
-recordOf-bytes h s =
-    let W = fromWords (width (h .edition) .bytes) (h .words) in
-    below-append (header h ++ W) (pending h)
-    (below-append (header h) W (header-bytes h) (fromWords-bytes (width (h .edition) .bytes) (h .words)))
-    (below-take (held h) (h .tail) (s .bytes))
 
 module _ (front back : List ℕ) (c : ℕ) (four : length front ≡ 4) (also : length back ≡ 4) where
   abbrev size : (l : List ℕ) → length l ≡ 4 → length (fromWords 2 l) ≡ 8
