@@ -1,21 +1,21 @@
--- A piece added: whole blocks are absorbed, the rest is the tail. Main statements: `added-append`, `added-none`, `added-sound`, `added-shaped`.
-use Prim.Native.Nat.{ℕ, zero, suc, _+_, _-_, _*_, _/_, _%_, _^_, _≤_, _<_}
+-- A piece added: whole blocks are absorbed, the rest is the tail.
+-- Main statements: `added-append`, `added-none`, `added-sound` and `added-shaped`.
+use Prim.Native.Nat.{ℕ, _+_, _*_, _/_, _%_, _^_, _≤_, _<_}
 use mathlib.Core.Bool.{true}
-use mathlib.Core.List.{List, [], _∷_, _++_, append-assoc, append-nil}
+use mathlib.Core.List.{List, [], _++_, append-assoc, append-nil}
 use mathlib.Core.Path.{_≡_, refl, sym, ap, ap₂, _∙_}
-use native.Mathlib.Nat.{div-add-mod', div-mul-le-self, div-eq-of-lt, mul-add-div-right, add-mul, zero-mul, mod-add-mod, mod-eq-of-lt, mod-lt, le-trans, lt-of-lt-of-le}
+use native.Mathlib.Nat.{div-add-mod', div-mul-le-self, div-eq-of-lt, mul-add-div-right, add-mul, zero-mul}
+use native.Mathlib.Nat.{mod-add-mod, mod-eq-of-lt, mod-lt}
 use native.Mathlib.Omega.{arith}
-use lib.Dec.{lit<}
 use lib.ListN.{length, take, drop, length-append, length-drop, take-append-drop}
 use lib.Pow.{pow-mono}
 use lib.Seq.{length-take-le, drop-append-add}
 use Rattle.bigendian.specs.BigEndian.{Below, Bytes}
 use Rattle.bigendian.proofs.Below.{below-append, below-take, below-drop, below-more}
-use Rattle.fips.specs.Words.{Width, word}
+use Rattle.fips.specs.Words.{word}
 use Rattle.fips.specs.ByteForm.{blockBytes, parseBytes}
 use Rattle.fips.specs.Constants.{chain, roundWords}
-use Rattle.fips.specs.Editions.{known, width, start}
-use Rattle.fips.proofs.Rules.{length-start, start-lt}
+use Rattle.fips.specs.Editions.{known, width}
 use Rattle.sha2.specs.Hash.{limit}
 use Rattle.sha2.specs.Hashing.{fit, absorbed}
 use Rattle.sha2.proofs.Blocks.{blocks-none, length-blocks}
@@ -25,11 +25,11 @@ use Rattle.sha2.proofs.Parse.{parse-none, parse-rest, absorb-append}
 use Rattle.sha2.proofs.Widths.{fit-same, length-fit}
 use Rattle.halfread.specs.declared.HalfRead.{HalfRead}
 use Rattle.halfread.specs.State.{block, held, pending, padded, sound, Shaped}
-use Rattle.halfread.specs.Steps.{opened, rest, waiting, added}
+use Rattle.halfread.specs.Steps.{rest, waiting, added}
 use Rattle.halfread.proofs.Fields.{same-state}
-use Rattle.halfread.proofs.Rules.{held-lt, held-within}
+use Rattle.halfread.proofs.Rules.{held-lt}
 use Rattle.halfread.proofs.Sizes.{block-some, block-within}
-use Rattle.halfread.proofs.Soundness.{Sound, sound-facts, facts-sound}
+use Rattle.halfread.proofs.Soundness.{sound-facts, facts-sound}
 use Rattle.halfread.proofs.Tails.{length-padded, take-padded, padded-bytes, length-pending}
 
 -- ---- absorbing at an edition's number
@@ -114,7 +114,8 @@ module _ (h : HalfRead) (long : length (h .tail) ≡ 128) where
       same-state (added (added h a) b) (added h (a ++ b)) refl
       (omega (arith, length-append a b))
       (ap₂ (absorbed e)
-      (ap (absorbed e (h .words)) (sym (take-append-drop (length W / n * n) W)) ∙ absorbed-rest e (h .words) (length W / n) A R whole small) next
+      (ap (absorbed e (h .words)) (sym (take-append-drop (length W / n * n) W))
+      ∙ absorbed-rest e (h .words) (length W / n) A R whole small) next
       ∙ sym (absorbed-append e (h .words) (length W / n) A (R ++ b) whole)
       ∙ ap (absorbed e (h .words)) (sym all))
       (ap (λ (l : List ℕ). padded (rest n l)) next

@@ -1,17 +1,16 @@
 -- A begun block is filled from the front of a piece, and the rest of the piece follows: the steps that `taken` takes are `added`.
 -- Main statements: `taken-short`, where the block is not filled, and `taken-long`, where it is or none was begun.
-use Prim.Native.Nat.{ℕ, zero, suc, _+_, _-_, _*_, _/_, _%_, _^_, _≤_, _<_}
+use Prim.Native.Nat.{ℕ, zero, suc, _+_, _-_, _*_, _/_, _%_, _≤_, _<_}
 use mathlib.Core.Bool.{true}
-use mathlib.Core.List.{List, [], _∷_, _++_, append-assoc}
+use mathlib.Core.List.{List, _++_, append-assoc}
 use mathlib.Core.Logic.{_⊎_, inl, inr, ⊎-elim}
 use mathlib.Core.Path.{_≡_, refl, sym, ap, ap₂, _∙_}
-use native.Mathlib.Nat.{div-add-mod', mod-eq-of-lt, mod-self, mod-lt, sub-zero, zero-mul, one-mul}
+use native.Mathlib.Nat.{div-add-mod', mod-eq-of-lt, mod-self, sub-zero, zero-mul, one-mul}
 use native.Mathlib.Omega.{arith}
-use lib.ListN.{length, take, drop, replicate, length-append, length-take, length-drop, take-append-drop}
-use lib.Seq.{length-take-le, take-all, take-at, take-append-add}
+use lib.ListN.{length, take, drop, replicate, length-append, length-drop, take-append-drop}
+use lib.Seq.{length-take-le, take-all, take-append-add}
 use Rattle.sha2.specs.AtFront.{atFront}
 use Rattle.sha2.specs.Hashing.{absorbed}
-use Rattle.sha2.proofs.AtFront.{length-atFront}
 use Rattle.halfread.specs.declared.HalfRead.{HalfRead}
 use Rattle.halfread.specs.State.{block, held, pending, padded, sound}
 use Rattle.halfread.specs.Steps.{rest, waiting, added}
@@ -47,6 +46,10 @@ lack-short b n m h k =
 abbrev pub part : ℕ → List ℕ → List ℕ
 part at xs = take (length xs - at) (drop at xs)
 
+-- what follows the whole blocks of n bytes
+abbrev pub whole-behind : ℕ → List ℕ → List ℕ
+whole-behind n xs = part (length xs - length xs % n) xs
+
 pub part-all : (at : ℕ) (xs : List ℕ) → part at xs ≡ drop at xs
 part-all at xs = take-all (length xs - at) (drop at xs) (rw (length-drop at xs) (omega arith))
 
@@ -73,11 +76,12 @@ module _ (h : HalfRead) (long : length (h .tail) ≡ 128) (ok : sound h ≡ true
       (sym (absorbed-none (h .edition) (h .words) (waiting h piece) (f .below) small))
       (isTail ∙ ap padded (sym (rest-small (block h) (waiting h piece) small)))
 
-  pub taken-long : {size from : ℕ} {tail last g v : List ℕ} → size ≡ block h → from ≡ held h → tail ≡ padded (waiting h piece) →
+  pub taken-long : {size from : ℕ} {tail last g v : List ℕ} →
+      size ≡ block h → from ≡ held h → tail ≡ padded (waiting h piece) →
       lack size from ≤ length piece →
       g ≡ absorbed (h .edition) (h .words) (take (from + lack size from) tail) →
       v ≡ absorbed (h .edition) g (part (lack size from) piece) →
-      last ≡ padded (part (length (part (lack size from) piece) - length (part (lack size from) piece) % size) (part (lack size from) piece)) →
+      last ≡ padded (whole-behind size (part (lack size from) piece)) →
       record { edition = h .edition; count = h .count + length piece; words = v; tail = last } ≡ added h piece
   unfolding added
   taken-long {size} {from} {tail} {last} {g} {v} isSize isFrom isTail enough isG isV isLast =
@@ -92,7 +96,8 @@ module _ (h : HalfRead) (long : length (h .tail) ≡ 128) (ok : sound h ≡ true
       let w = lack-whole b n (held-lt h) in
       let lp : length P ≡ n = length-pending h long in
       let la : w .0 * b ≡ length A = w .1 ∙ sym (length-append P (take m piece) ∙ ap₂ _+_ lp (length-take-le m piece (omega arith))) in
-      let all : waiting h piece ≡ A ++ R = ap (λ (l : List ℕ). P ++ l) (sym (take-append-drop m piece)) ∙ sym (append-assoc P (take m piece) R) in
+      let all : waiting h piece ≡ A ++ R =
+      ap (λ (l : List ℕ). P ++ l) (sym (take-append-drop m piece)) ∙ sym (append-assoc P (take m piece) R) in
       let front : take (from + lack size from) tail ≡ A =
       ap₂ take (ap₂ _+_ isFrom isM) isTail
       ∙ front-padded (waiting h piece) (n + m) (omega (arith, w .2, block-within e)) (rw (length-waiting h long piece) (omega arith))
@@ -100,7 +105,7 @@ module _ (h : HalfRead) (long : length (h .tail) ≡ 128) (ok : sound h ≡ true
       ∙ take-append-add P piece m in
       let after : part (lack size from) piece ≡ R = part-all (lack size from) piece ∙ ap (λ (k : ℕ). drop k piece) isM in
       let cut : length R - length R % b ≡ length R / b * b = omega (arith, div-add-mod' (length R) b) in
-      let back : part (length R - length R % b) R ≡ rest b R =
+      let back : whole-behind b R ≡ rest b R =
       part-all (length R - length R % b) R ∙ ap (λ (k : ℕ). drop k R) cut in
       same-state (record { edition = h .edition; count = h .count + length piece; words = v; tail = last }) (added h piece) refl refl
       (isV
@@ -108,6 +113,6 @@ module _ (h : HalfRead) (long : length (h .tail) ≡ 128) (ok : sound h ≡ true
       ∙ sym (absorbed-append e (h .words) (w .0) A R la)
       ∙ ap (absorbed e (h .words)) (sym all))
       (isLast
-      ∙ ap₂ (λ (l : List ℕ) (k : ℕ). padded (part (length l - length l % k) l)) after isSize
+      ∙ ap₂ (λ (l : List ℕ) (k : ℕ). padded (whole-behind k l)) after isSize
       ∙ ap padded (back ∙ sym (rest-append b (w .0) A R (block-some e) la))
       ∙ ap (λ (l : List ℕ). padded (rest b l)) (sym all))

@@ -1,7 +1,6 @@
 -- A message of which nothing is taken is sound: `opened-sound` and `opened-shaped`.
-use Prim.Native.Nat.{ℕ, _%_, _^_, _<_, _≤_}
+use Prim.Native.Nat.{ℕ, _^_, _<_}
 use mathlib.Core.Bool.{true}
-use mathlib.Core.List.{List, []}
 use mathlib.Core.Path.{_≡_, refl, sym, ap}
 use native.Mathlib.Nat.{zero-mod}
 use native.Mathlib.Omega.{arith}

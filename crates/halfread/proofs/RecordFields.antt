@@ -1,11 +1,9 @@
 -- The fields of a record, read where they stand: document 01, "The saved record". Main statement: `fields-law`, which the code cites.
-use Prim.Native.Nat.{ℕ, zero, suc, _+_, _-_, _*_, _/_, _≤_, _<_, min}
+use Prim.Native.Nat.{ℕ, _/_, _≤_, min}
 use mathlib.Core.List.{List, map}
-use mathlib.Core.Path.{_≡_, refl, sym, ap, ap₂, _∙_}
-use native.Mathlib.Nat.{min-le-left}
+use mathlib.Core.Path.{_≡_, ap, ap₂, _∙_}
 use native.Mathlib.Omega.{arith}
-use lib.ListN.{length, take, drop, length-take, length-drop}
-use lib.Seq.{take-all}
+use lib.ListN.{length, take, drop, length-take}
 use Rattle.bigendian.specs.BigEndian.{number, Bytes, word64}
 use Rattle.bigendian.specs.Words.{toWords}
 use Rattle.bigendian.proofs.Below.{below-take, below-drop}
@@ -15,9 +13,8 @@ use Rattle.bigendian.proofs.Words.{toWords-word64}
 use Rattle.fips.specs.ByteForm.{blockBytes}
 use Rattle.fips.specs.Editions.{width}
 use Rattle.sha2.proofs.Digest.{bytes-within}
-use Rattle.halfread.specs.declared.HalfRead.{HalfRead}
 use Rattle.halfread.specs.State.{padded}
-use Rattle.halfread.specs.Record.{wordsAt, tailAt, loaded}
+use Rattle.halfread.specs.Record.{tailAt, loaded}
 use Rattle.halfread.proofs.Fields.{same-state}
 use Rattle.halfread.proofs.Filling.{part, part-all}
 

@@ -1,24 +1,22 @@
 -- The layout of a saved record: document 01, "The saved record". How long its parts are, and that writing them one behind another makes it.
 -- Main statements: `header-law` and `record-law`, which the code cites.
-use Prim.Native.Nat.{ℕ, zero, suc, _+_, _-_, _*_, _/_, _≤_, _<_}
+use Prim.Native.Nat.{ℕ, _+_, _-_, _*_, _/_, _≤_}
 use mathlib.Core.List.{List, [], _∷_, _++_, append-assoc, append-nil}
 use mathlib.Core.Path.{_≡_, refl, sym, ap, ap₂, _∙_}
 use native.Mathlib.Omega.{arith}
-use lib.ListN.{length, take, drop, replicate, length-append, length-take, length-drop, length-replicate}
-use lib.Seq.{take-all, take-at, take-append-add, length-take-le}
-use Rattle.bigendian.specs.BigEndian.{be, Bytes}
+use lib.ListN.{length, take, drop, replicate, length-append, length-take, length-drop}
+use lib.Seq.{take-all, take-at, take-append-add}
+use Rattle.bigendian.specs.BigEndian.{be}
 use Rattle.bigendian.specs.Words.{fromWords, withWords}
-use Rattle.bigendian.proofs.Below.{below-append, below-take}
-use Rattle.bigendian.proofs.BigEndian.{length-be, be-bytes, be-append}
-use Rattle.bigendian.proofs.Words.{length-fromWords, fromWords-bytes, withWords-room, length-withWords}
-use Rattle.fips.specs.ByteForm.{blockBytes}
+use Rattle.bigendian.proofs.BigEndian.{length-be, be-append}
+use Rattle.bigendian.proofs.Words.{length-fromWords, withWords-room, length-withWords}
 use Rattle.fips.specs.Editions.{width}
 use Rattle.fips.proofs.Editions.{width-some}
 use Rattle.sha2.specs.AtFront.{atFront}
 use Rattle.sha2.proofs.AtFront.{atFront-room, length-atFront}
 use Rattle.sha2.proofs.Digest.{bytes-within}
 use Rattle.halfread.specs.declared.HalfRead.{HalfRead}
-use Rattle.halfread.specs.State.{block, held, pending, Shaped}
+use Rattle.halfread.specs.State.{block, held, pending}
 use Rattle.halfread.specs.Record.{wordsAt, tailAt, recordLength, header, recordOf}
 use Rattle.halfread.proofs.Rules.{held-within}
 use Rattle.halfread.proofs.Tails.{length-pending}
@@ -52,7 +50,8 @@ recordLength-within h = omega (arith, tailAt-within (h .edition), held-within h)
 pub length-header : (h : HalfRead) → length (header h) ≡ 24
 length-header h = simp (length-append, length-be)
 
-pub length-front : (h : HalfRead) → length (h .words) ≡ 8 → length (header h ++ fromWords (width (h .edition) .bytes) (h .words)) ≡ tailAt (h .edition)
+pub length-front : (h : HalfRead) → length (h .words) ≡ 8 →
+    length (header h ++ fromWords (width (h .edition) .bytes) (h .words)) ≡ tailAt (h .edition)
 length-front h e =
     length-append (header h) (fromWords (width (h .edition) .bytes) (h .words))
     ∙ ap₂ _+_ (length-header h) (length-fromWords (width (h .edition) .bytes) (h .words) ∙ ap (λ (n : ℕ). n * width (h .edition) .bytes) e)
@@ -60,7 +59,8 @@ length-front h e =
 -- ---- the header, in three parts
 
 pub header-parts : (h : HalfRead) → header h
-    ≡ fromWords 2 (h .edition ∷ 8 ∷ wordsAt ∷ tailAt (h .edition) ∷ []) ++ be 8 (h .count) ++ fromWords 2 (held h ∷ recordLength h ∷ 0 ∷ 0 ∷ [])
+    ≡ fromWords 2 (h .edition ∷ 8 ∷ wordsAt ∷ tailAt (h .edition) ∷ []) ++ be 8 (h .count)
+    ++ fromWords 2 (held h ∷ recordLength h ∷ 0 ∷ 0 ∷ [])
 unfolding fromWords
 header-parts h =
     let zeros : be 4 0 ≡ be 2 0 ++ be 2 0 = be-append 2 2 0 in

@@ -1,5 +1,5 @@
 -- When a half-read message is sound: document 01, "The table of bays". One rule at a time, as the code asks them.
-use Prim.Native.Nat.{ℕ, _-_, _%_, _^_, _≤_, _<_}
+use Prim.Native.Nat.{ℕ, _-_, _^_, _≤_, _<_}
 use mathlib.Core.Bool.{Bool, true, false, _||_}
 use mathlib.Core.List.{List, [], _∷_}
 use mathlib.Core.Path.{_≡_, refl, sym, ap, _∙_}
@@ -59,7 +59,9 @@ module _ (h : HalfRead) where
   pub zero-rule : {n : ℕ} {b : Bool} → length (h .tail) ≡ 128 → n ≡ held h → b ≡ allZero (take (128 - n) (drop n (h .tail))) →
       b ≡ allZero (drop (held h) (h .tail))
   zero-rule {n} {b} l p q =
-      q ∙ ap allZero (take-all (128 - n) (drop n (h .tail)) (rw (length-drop n (h .tail)) (omega arith)) ∙ ap (λ (m : ℕ). drop m (h .tail)) p)
+      q
+      ∙ ap allZero
+      (take-all (128 - n) (drop n (h .tail)) (rw (length-drop n (h .tail)) (omega arith)) ∙ ap (λ (m : ℕ). drop m (h .tail)) p)
 
 pub below-rule : (e : ℕ) (H : List ℕ) {t b : Bool} → t ≡ isNarrow e → b ≡ allBelow (2 ^ word (widthOf t)) H →
     b ≡ allBelow (2 ^ word (width e)) H

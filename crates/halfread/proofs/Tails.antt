@@ -1,11 +1,11 @@
 -- A tail: bytes with zeros behind them. Laws of `padded` and `pending`, and of bytes written behind those that stand there.
-use Prim.Native.Nat.{ℕ, zero, suc, _+_, _-_, _≤_, _<_}
-use mathlib.Core.List.{List, [], _∷_, _++_, append-assoc, append-nil}
-use mathlib.Core.Path.{_≡_, refl, sym, ap, ap₂, _∙_}
+use Prim.Native.Nat.{ℕ, zero, suc, _+_, _-_, _≤_}
+use mathlib.Core.List.{List, _++_, append-assoc, append-nil}
+use mathlib.Core.Path.{_≡_, sym, ap, ap₂, _∙_}
 use native.Mathlib.Nat.{sub-zero, zero-sub, suc-sub-suc}
 use native.Mathlib.Omega.{arith}
 use lib.Dec.{lit<}
-use lib.ListN.{length, take, drop, replicate, length-append, length-replicate, length-take, length-drop, drop-of-length-le}
+use lib.ListN.{length, take, drop, replicate, length-append, length-replicate, length-take, drop-of-length-le}
 use lib.Seq.{take-all, take-at, drop-at, take-append-add, take-append-le, take-take, length-take-le}
 use Rattle.bigendian.specs.BigEndian.{Bytes}
 use Rattle.bigendian.proofs.Below.{below-append, below-take, below-replicate}
@@ -69,7 +69,8 @@ drop-padded bs n h e =
 
 pub padded-bytes : (bs : List ℕ) → Bytes bs → Bytes (padded bs)
 padded-bytes bs h =
-    rw (front-zeros 128 bs) (below-append (take 128 bs) (replicate (128 - length bs) 0) (below-take 128 bs h) (below-replicate (128 - length bs) (lit< tt)))
+    rw (front-zeros 128 bs)
+    (below-append (take 128 bs) (replicate (128 - length bs) 0) (below-take 128 bs h) (below-replicate (128 - length bs) (lit< tt)))
 
 pub length-pending : (h : HalfRead) → length (h .tail) ≡ 128 → length (pending h) ≡ held h
 length-pending h e = length-take-le (held h) (h .tail) (omega (arith, held-within h))

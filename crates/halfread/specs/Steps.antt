@@ -10,7 +10,7 @@ use Rattle.fips.specs.Editions.{start, digestBytes}
 use Rattle.sha2.specs.Hash.{limit, closingFits}
 use Rattle.sha2.specs.Hashing.{absorbed, finished, digestFrom}
 use Rattle.halfread.specs.declared.HalfRead.{HalfRead}
-use Rattle.halfread.specs.State.{block, held, pending, padded, sound}
+use Rattle.halfread.specs.State.{block, pending, padded, sound}
 
 -- a message of which nothing is taken
 unfoldable pub opened : ℕ → HalfRead

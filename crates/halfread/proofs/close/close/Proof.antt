@@ -1,6 +1,6 @@
 -- `halfread::close::close` meets its contract: each refusal by its test, and the digest of the last words. Assumes nothing.
-use Prim.Native.Nat.{ℕ, _≤_}
-use mathlib.Core.Bool.{true, false}
+use Prim.Native.Nat.{ℕ, _<_}
+use mathlib.Core.Bool.{true}
 use mathlib.Core.List.{List}
 use mathlib.Core.Path.{_≡_, refl, sym, ap, _∙_}
 use native.Mathlib.Omega.{arith}
@@ -16,7 +16,7 @@ use Rattle.sha2.specs.Hashing.{finished, digestFrom}
 use Rattle.halfread.specs.declared.HalfRead.{HalfRead}
 use Rattle.halfread.specs.State.{held, sound}
 use Rattle.halfread.specs.Steps.{closeTests, closed}
-use Rattle.halfread.proofs.Rules.{held-within}
+use Rattle.halfread.proofs.Sizes.{rest-within}
 use Rattle.halfread.proofs.close.close.Statement.{statement}
 use Rattle.halfread.proofs.close.close.Tie as tie
 
@@ -32,7 +32,8 @@ unfolding closeTests first
 returns-2 c =
     refused (rw (is-sound (c .before .before), sym (c .before .closing-fits .ensures) ∙ not-true _ (c .if2 .taken))) tt refl
 
-fitting : (c : tie.Else2) → closingFits (c .before .before .before .before .before .args .closing) (c .before .before .before .before .before .args .bits) ≡ true
+fitting : (c : tie.Else2) →
+    closingFits (c .before .before .before .before .before .args .closing) (c .before .before .before .before .before .args .bits) ≡ true
 fitting c = sym (c .before .closing-fits .ensures) ∙ not-false _ (c .if2 .left)
 
 returns-3 : tie.Need-returns-3
@@ -47,7 +48,8 @@ array-share-prefix-tail : tie.Need-array-share-prefix-tail
 array-share-prefix-tail c =
     let h = c .before .before .before .before .before .before .before .before .before .before .args .half in
     let long : length (h .tail) ≡ 128 = search needs in
-    omega (arith, c .before .held .ensures, held-within h)
+    let small : c .before .held .result < 128 = rest-within _ _ (c .before .held .ensures) in
+    omega arith
 
 slice-aggregate-finish : tie.Need-slice-aggregate-finish
 slice-aggregate-finish c = sym (length-take-le _ _ (array-share-prefix-tail (c .before)))

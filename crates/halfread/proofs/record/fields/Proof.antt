@@ -1,6 +1,6 @@
 -- `halfread::record::fields` meets its contract: each field is read where it stands. Assumes nothing.
 use Prim.Native.Nat.{ℕ, _≤_}
-use mathlib.Core.Path.{_≡_, sym}
+use mathlib.Core.Path.{sym}
 use native.Mathlib.Omega.{arith}
 use mir.Syntax.{w8 as u8}
 use mir.Val.{Fits}
@@ -11,7 +11,9 @@ use Rattle.halfread.proofs.RecordFields.{fields-law}
 use Rattle.halfread.proofs.record.fields.Statement.{statement}
 use Rattle.halfread.proofs.record.fields.Tie as tie
 
-within : (c : tie.After-within) → c .within .result ≤ length (c .before .before .before .before .before .before .before .before .before .before .before .before .args .bytes .now)
+within : (c : tie.After-within) →
+    c .within .result
+    ≤ length (c .before .before .before .before .before .before .before .before .before .before .before .before .args .bytes .now)
 within c = omega (arith, c .within .ensures)
 
 returns : tie.Need-returns
@@ -30,7 +32,8 @@ returns c =
 pub fields-spec : {M : Type 1} → statement M
 fields-spec =
     tie.close
-    (tie.spec (λ c. sym (length-take-le 2 (c .before .before .args .bytes .now) (omega (arith, c .before .before .pre)))) (λ c κs. search needs) (λ c. search needs) (λ c. search needs)
-    (λ c. search needs) (λ c κs. search needs) (λ c. search needs) (λ c. search needs) (λ c. search needs) (λ c. search needs)
+    (tie.spec (λ c. sym (length-take-le 2 (c .before .before .args .bytes .now) (omega (arith, c .before .before .pre))))
+    (λ c κs. search needs) (λ c. search needs) (λ c. search needs) (λ c. search needs) (λ c κs. search needs) (λ c. search needs)
+    (λ c. search needs) (λ c. search needs) (λ c. search needs)
     (λ c κs. search needs) (λ c κs. search needs) (λ c κs. search needs) (λ c κs. search needs) within within (λ c. search needs)
     (λ c κs. search needs) returns)

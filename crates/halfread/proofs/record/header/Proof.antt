@@ -24,7 +24,8 @@ returns c =
     let n = l .before in
     let t = n .before in
     let h = t .before .args .half in
-    header-law (h .edition ∷ 8 ∷ wordsAt ∷ t .tail-at .result ∷ []) (n .held .result ∷ l .record-length .result ∷ 0 ∷ 0 ∷ []) (h .count) refl refl
+    header-law (h .edition ∷ 8 ∷ wordsAt ∷ t .tail-at .result ∷ []) (n .held .result ∷ l .record-length .result ∷ 0 ∷ 0 ∷ [])
+    (h .count) refl refl
     (w .put-words .ensures) (p .put .ensures) (c .before .put-words2 .ensures)
     ∙ ap₂ (λ (f g : List ℕ). fromWords 2 f ++ be 8 (h .count) ++ fromWords 2 g)
     (ap (λ (x : ℕ). h .edition ∷ 8 ∷ wordsAt ∷ x ∷ []) (t .tail-at .ensures))

@@ -1,8 +1,6 @@
--- `halfread::record::load` meets its contract: bytes are a record where their state is sound and its record is those bytes. Assumes nothing.
-use Prim.Native.Nat.{ℕ}
-use mathlib.Core.Bool.{Bool, true}
-use mathlib.Core.List.{List}
-use mathlib.Core.Path.{_≡_, refl, sym, ap, _∙_}
+-- `halfread::record::load` meets its contract: bytes are a record where their state is sound and its record is those bytes.
+-- Assumes nothing.
+use mathlib.Core.Path.{_≡_, sym, ap, _∙_}
 use native.Mathlib.Omega.{arith}
 use lib.ListN.{length}
 use lib.Seq.{length-take-le}
@@ -10,10 +8,9 @@ use borrow.Author.Needs.{needs}
 use borrow.Author.Tests.{not-true, not-false}
 use Rattle.answers.specs.Judged.{first}
 use Rattle.answers.proofs.Outcome.{done}
-use Rattle.halfread.specs.declared.HalfRead.{HalfRead}
 use Rattle.halfread.specs.Lists.{same}
 use Rattle.halfread.specs.State.{sound}
-use Rattle.halfread.specs.Record.{recordOf, loaded, isRecord, loadTests}
+use Rattle.halfread.specs.Record.{recordOf, loaded, loadTests}
 use Rattle.halfread.proofs.Loading.{too-short, not-sound, not-same, both-pass, no-record, compare-law}
 use Rattle.halfread.proofs.RecordLayout.{recordLength-within}
 use Rattle.halfread.proofs.record.load.Statement.{statement}
@@ -47,7 +44,8 @@ compared : (c : tie.After-same-bytes) →
 compared c =
     let n = c .before .before in
     let f = n .before .before .before .before in
-    compare-law _ (n .before .record-of .result) (f .fields .ensures) (n .before .record-of .ensures) (n .record-length .ensures) (c .same-bytes .ensures)
+    compare-law _ (n .before .record-of .result)
+    (f .fields .ensures) (n .before .record-of .ensures) (n .record-length .ensures) (c .same-bytes .ensures)
 
 returns-3 : tie.Need-returns-3
 returns-3 c =
@@ -71,4 +69,5 @@ load-spec =
     tie.close
     (tie.spec (λ c κs. search needs) returns (λ c κs. search needs) (λ c κs. search needs) (λ c κs. search needs) returns-2
     (λ c κs. search needs) (λ c κs. search needs) array-share-prefix-bytes
-    (λ c. sym (length-take-le _ _ (array-share-prefix-bytes (c .before)))) (λ c κs. search needs) (λ c κs. search needs) returns-3 returns-4)
+    (λ c. sym (length-take-le _ _ (array-share-prefix-bytes (c .before)))) (λ c κs. search needs) (λ c κs. search needs)
+    returns-3 returns-4)

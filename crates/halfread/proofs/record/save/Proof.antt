@@ -43,7 +43,8 @@ returns-3 c =
     let out = n .before .before .before .before .args .out .now in
     done (rw (is-sound (n .before), ← n .record-length .ensures, le-ltb _ _ (o .before .if2 .left)))
     (p .put-front .ensures
-    ∙ ap (λ (l : List ℕ). atFront l out) (ap (λ (k : ℕ). take k (o .record-of .result)) (n .record-length .ensures) ∙ o .record-of .ensures))
+    ∙ ap (λ (l : List ℕ). atFront l out)
+    (ap (λ (k : ℕ). take k (o .record-of .result)) (n .record-length .ensures) ∙ o .record-of .ensures))
 
 pub save-spec : {M : Type 1} → statement M
 save-spec =

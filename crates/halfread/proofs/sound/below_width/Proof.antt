@@ -30,7 +30,8 @@ returns : tie.Need-returns Inv-loop μ-loop
 returns c =
     let words = c .before .args .t1 in
     let fits : (i : ℕ) → Fits u64 (getD words i 0) = λ i. search needs in
-    sym (ap (λ (t : Bool). allBelow (limits t) words) (not-true (c .before .args .thin) (c .if1 .taken)) ∙ below-allBelow (2 ^ 64) words (λ i. fits i .fits))
+    sym (ap (λ (t : Bool). allBelow (limits t) words) (not-true (c .before .args .thin) (c .if1 .taken))
+    ∙ below-allBelow (2 ^ 64) words (λ i. fits i .fits))
 
 returns-2 : tie.Need-returns-2 Inv-loop μ-loop
 returns-2 c =

@@ -1,12 +1,13 @@
 -- `halfread::sound::is_sound` meets its contract: rule by rule. Assumes nothing.
-use Prim.Native.Nat.{_≤_}
+use Prim.Native.Nat.{_<_, _≤_}
 use mathlib.Core.Path.{_≡_, sym, _∙_}
 use native.Mathlib.Omega.{arith}
 use lib.ListN.{length}
 use borrow.Author.Needs.{needs}
 use borrow.Author.Tests.{le-leb, lt-leb, not-true, not-false}
 use Rattle.sha2.specs.Hash.{limit}
-use Rattle.halfread.proofs.Rules.{held-within, unsound, Kept, past-rule, start-rule, zero-rule, below-rule}
+use Rattle.halfread.proofs.Rules.{unsound, Kept, past-rule, start-rule, zero-rule, below-rule}
+use Rattle.halfread.proofs.Sizes.{rest-within}
 use Rattle.halfread.proofs.sound.is_sound.Statement.{statement}
 use Rattle.halfread.proofs.sound.is_sound.Tie as tie
 
@@ -20,14 +21,18 @@ returns-3 : tie.Need-returns-3
 returns-3 c =
     let h = c .before .before .before .before .before .before .before .args .half in
     unsound h 2
-    (sym (below-rule (h .edition) (h .words) (c .before .before .narrow .ensures) (c .before .below-width .ensures)) ∙ not-true _ (c .if3 .taken))
+    (sym (below-rule (h .edition) (h .words) (c .before .before .narrow .ensures) (c .before .below-width .ensures))
+    ∙ not-true _ (c .if3 .taken))
 
 held-fits : (c : tie.After-held) → c .held .result ≤ 128
-held-fits c = omega (arith, c .held .ensures, held-within (c .before .before .before .before .before .before .before .before .before .args .half))
+held-fits c =
+    let small : c .held .result < 128 = rest-within _ _ (c .held .ensures) in
+    omega arith
 
 tail-fits : tie.Need-part-all-zero-end
 tail-fits c =
-    let long : length (c .before .before .before .before .before .before .before .before .before .before .args .half .tail) ≡ 128 = search needs in
+    let s = c .before .before .before .before .before .before .before .before .before .before in
+    let long : length (s .args .half .tail) ≡ 128 = search needs in
     omega arith
 
 returns-4 : tie.Need-returns-4
@@ -37,7 +42,8 @@ returns-4 c =
     let long : length (h .tail) ≡ 128 = search needs in
     unsound h 3 (sym (zero-rule h long (o .held .ensures) (c .before .all-zero .ensures)) ∙ not-true _ (c .if4 .taken))
 
-kept : (c : tie.Else4) → Kept (c .before .before .before .before .before .before .before .before .before .before .before .before .before .args .half)
+kept : (c : tie.Else4) →
+    Kept (c .before .before .before .before .before .before .before .before .before .before .before .before .before .args .half)
 kept c =
     let o = c .before .before .before .before in
     let n = o .before .before .before .before in

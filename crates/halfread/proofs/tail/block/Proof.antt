@@ -3,7 +3,6 @@ use mathlib.Core.Bool.{Bool}
 use mathlib.Core.Path.{sym, ap, _∙_}
 use borrow.Author.Needs.{needs}
 use Rattle.fips.specs.ByteForm.{blockBytes}
-use Rattle.fips.specs.Words.{Width}
 use Rattle.sha2.specs.Hashing.{widthOf}
 use Rattle.sha2.proofs.Widths.{width-of}
 use Rattle.halfread.proofs.tail.block.Statement.{statement}
