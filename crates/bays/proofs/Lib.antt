@@ -12,3 +12,4 @@ pub mod Follows
 pub mod Ledger
 pub mod Alike
 pub mod CallersWords
+pub mod Records
