@@ -13,7 +13,7 @@ use Rattle.bays.specs.Bay.{halfOf, bayOf}
 use Rattle.bays.proofs.Packing.{shaped-halfOf, bayOf-halfOf, halfOf-bayOf}
 
 pub bay-saved-loads : (b : List ℕ) → length b ≡ bayWords → Below (2 ^ 64) b → sound (halfOf b) ≡ true →
-  (bayOf (loaded (recordOf (halfOf b))) ≡ b) × (isRecord (recordOf (halfOf b)) ≡ true)
+    (bayOf (loaded (recordOf (halfOf b))) ≡ b) × (isRecord (recordOf (halfOf b)) ≡ true)
 bay-saved-loads b l f s =
     let back = saved-loads (halfOf b) s (shaped-halfOf b l f) in (ap bayOf (back .0) ∙ bayOf-halfOf b l f, back .1)
 
@@ -21,5 +21,5 @@ pub bay-loaded-saves : (r : List ℕ) → Bytes r → isRecord r ≡ true → re
 bay-loaded-saves r f k = ap recordOf (halfOf-bayOf (loaded r) (loaded-shaped r f)) ∙ loaded-saves r k
 
 pub bay-one-record : (r s : List ℕ) → Bytes r → Bytes s → isRecord r ≡ true → isRecord s ≡ true →
-  bayOf (loaded r) ≡ bayOf (loaded s) → r ≡ s
+    bayOf (loaded r) ≡ bayOf (loaded s) → r ≡ s
 bay-one-record r s f g k m e = sym (bay-loaded-saves r f k) ∙ ap (λ b. recordOf (halfOf b)) e ∙ bay-loaded-saves s g m
