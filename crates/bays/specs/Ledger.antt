@@ -1,5 +1,5 @@
--- The plain ledger: document 01, "The plain ledger". It keeps N and, per bay, nothing or an entry with the whole list of bytes given, and
--- hashes from the beginning each time. It knows no word of the table and never gives 1 or 6.
+-- The plain ledger: document 01, "The plain ledger". It keeps N and, per bay, nothing or an entry with the whole list of bytes given
+-- since its start words, and hashes from those words each time. It knows no word of the table and never gives 1 or 6.
 use Prim.Native.Nat.{ℕ, _+_, _-_, _*_, _/_, _^_, _≤_}
 use mathlib.Core.Bool.{Bool, true, false, not}
 use mathlib.Core.List.{List, [], _∷_, _++_}
@@ -84,7 +84,7 @@ abbrev pub FineSlot : Slot → Type 0
 FineSlot nothing = Unit {0}
 FineSlot (entry en) = Fine en
 
--- the same of a slot; of nothing, nothing
+-- what the tests and ask read of a slot; of nothing: false, 0 and no bytes
 abbrev pub isEntry : Slot → Bool
 isEntry nothing = false
 isEntry (entry en) = true

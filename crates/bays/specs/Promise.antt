@@ -1,4 +1,4 @@
--- Demand 3, as one statement: after a layout that is done, over memory that held anything, every sequence of calls gives answer for answer and
+-- The ledger's promise, as one statement: after a layout that is done, over memory that held anything, every sequence of calls gives answer for answer and
 -- byte for byte what the plain ledger gives. The theorem is `ledger`.
 use Prim.Native.Nat.{ℕ, _<_, _≤_}
 use mathlib.Core.List.{List, [], _∷_}
@@ -59,7 +59,7 @@ reach t (loading i bytes) = baysOf t
 reach t (asking i) = baysOf t
 reach t (dropping i) = baysOf t
 
--- no call lays out more than m bays
+-- no call lays out more than m bays; read of a table whose header says m, so that only layouts can reach further
 abbrev pub LaidWithin : ℕ → List Call → Type 0
 LaidWithin m [] = Unit {0}
 LaidWithin m (c ∷ cs) = (reach (m ∷ []) c ≤ m) × LaidWithin m cs

@@ -1,5 +1,5 @@
 -- Words and the functions on them: FIPS 180-4 §2.2.2, §3.2, §4.1.2 and §4.1.3, over one record of the width.
--- A word is a number below 2^w. `32-bit` and `64-bit` are the two widths of the standard.
+-- A word is a number below 2^w. `w32` and `w64` are the two widths of the standard.
 use Prim.Native.Nat.{ℕ, _+_, _-_, _*_, _/_, _%_, _^_}
 use lib.Bits.{bitAnd, bitOr, bitXor}
 

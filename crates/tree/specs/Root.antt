@@ -1,4 +1,4 @@
--- The chunk tree of a map, document 01 "Chunk tree (house)": leaves over its chunks, and levels of parents up to the root.
+-- The chunk tree of a list of bytes, document 01 "Chunk tree (house)": leaves over its chunks, and levels of parents up to the root.
 -- Main definition: `root`. The rule of a level is `up`, and nothing else says it.
 use Prim.Native.Nat.{ℕ, zero, suc, _+_, _-_, _/_}
 use mathlib.Core.List.{List, [], _∷_, _++_, map}

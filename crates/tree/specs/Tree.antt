@@ -7,7 +7,7 @@ use Rattle.answers.specs.Judged.{Test, _when_}
 use Rattle.sha2.specs.AtFront.{atFront}
 use Rattle.tree.specs.Root.{nodeBytes, root}
 
--- house: a map has at most 1 MiB
+-- house: at most 1 MiB
 abbrev pub limit : ℕ
 limit = 1048576
 

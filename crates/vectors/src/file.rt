@@ -95,7 +95,7 @@ fn all(fd: i32, monte: bool) -> Tally {
 }
 
 // Writes the file's name, how many of its lines hold, and how many it has. A file that cannot be opened has no lines.
-pub fn report(name: &[u8], monte: bool) {
+pub(crate) fn report(name: &[u8], monte: bool) {
     let fd = os::open_read(name);
     if fd < 0 {
         os::fail(name);

@@ -8,7 +8,7 @@ fn done(answer: Answer) -> bool {
 }
 
 // The first n bytes; all of them where there are no more.
-pub fn front(s: &[u8], n: usize) -> &[u8] {
+pub(crate) fn front(s: &[u8], n: usize) -> &[u8] {
     if n < s.len() {
         return &s[0..n];
     }
@@ -16,7 +16,7 @@ pub fn front(s: &[u8], n: usize) -> &[u8] {
 }
 
 // The same of an output.
-pub fn room(s: &mut [u8], n: usize) -> &mut [u8] {
+pub(crate) fn room(s: &mut [u8], n: usize) -> &mut [u8] {
     if n < s.len() {
         return &mut s[0..n];
     }
@@ -24,7 +24,13 @@ pub fn room(s: &mut [u8], n: usize) -> &mut [u8] {
 }
 
 // Whether the digest of the message, bytes and closing bits, is the one expected.
-pub fn digest_is(edition: u64, message: &[u8], closing: u8, bits: u64, expected: &[u8]) -> bool {
+pub(crate) fn digest_is(
+    edition: u64,
+    message: &[u8],
+    closing: u8,
+    bits: u64,
+    expected: &[u8],
+) -> bool {
     let mut out = [0u8; 64];
     let n = expected.len();
     let answer = sha2::hash::hash(edition, message, closing, bits, room(&mut out, n));
@@ -86,7 +92,7 @@ fn message_digest_is(edition: u64, bits: u64, text: &[u8], expected: &[u8]) -> b
 }
 
 // A digest in hexadecimal, read into an array of 64 bytes: how many bytes it has, none where it is not one.
-pub fn digest(text: &[u8], bytes: &mut [u8; 64]) -> usize {
+pub(crate) fn digest(text: &[u8], bytes: &mut [u8; 64]) -> usize {
     if hexlines::is_hex(text) {
         if text.len() <= 128 {
             return hexlines::unhex(text, bytes);
@@ -96,12 +102,12 @@ pub fn digest(text: &[u8], bytes: &mut [u8; 64]) -> usize {
 }
 
 // The first n bytes of such an array.
-pub fn digest_front(bytes: &[u8; 64], n: usize) -> &[u8] {
+pub(crate) fn digest_front(bytes: &[u8; 64], n: usize) -> &[u8] {
     front(bytes, n)
 }
 
 // Whether the line holds: it reads as such a line does, and its digest is what hash at once writes.
-pub fn holds(line: &[u8]) -> bool {
+pub(crate) fn holds(line: &[u8]) -> bool {
     let Number::Is(edition) = hexlines::decimal(hexlines::first_field(line)) else {
         return false;
     };

@@ -103,7 +103,7 @@ fn reached(last: &[u8; 64], n: usize, text: &[u8]) -> bool {
 }
 
 // Judges a line, after the line before, whose digest `last` holds.
-pub fn judged(line: &[u8], before: Chain, last: &mut [u8; 64]) -> Chain {
+pub(crate) fn judged(line: &[u8], before: Chain, last: &mut [u8; 64]) -> Chain {
     let Number::Is(edition) = hexlines::decimal(hexlines::first_field(line)) else {
         return Chain {
             edition: 0,
