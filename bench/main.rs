@@ -12,11 +12,11 @@ struct Timespec {
 const CLOCK_PROCESS_CPUTIME_ID: i32 = 2;
 
 extern "C" {
-    // crate bench_capi; a slice is a pointer and a length
-    fn bench_hash(edition: u64, message: *const u8, count: usize, closing: u8, bits: u64, out: *mut u8, room: usize) -> u64;
-    fn bench_lay_out(table: *mut u64, words: usize, bays: u64) -> u64;
-    fn bench_open(table: *mut u64, words: usize, bay: u64, edition: u64) -> u64;
-    fn bench_add(table: *mut u64, words: usize, bay: u64, piece: *const u8, count: usize) -> u64;
+    // crate capi; a slice is a pointer and a length
+    fn dw_hash(edition: u64, message: *const u8, count: usize, closing: u8, bits: u64, out: *mut u8, room: usize) -> u64;
+    fn dw_lay_out(table: *mut u64, words: usize, bays: u64) -> u64;
+    fn dw_open(table: *mut u64, words: usize, bay: u64, edition: u64) -> u64;
+    fn dw_add(table: *mut u64, words: usize, bay: u64, piece: *const u8, count: usize) -> u64;
     fn clock_gettime(clock: i32, time: *mut Timespec) -> i32;
 }
 
@@ -28,7 +28,7 @@ fn now() -> Duration {
 }
 
 fn dwombarine(edition: u64, message: &[u8], out: &mut [u8]) {
-    let number = unsafe { bench_hash(edition, message.as_ptr(), message.len(), 0, 0, out.as_mut_ptr(), out.len()) };
+    let number = unsafe { dw_hash(edition, message.as_ptr(), message.len(), 0, 0, out.as_mut_ptr(), out.len()) };
     assert_eq!(number, 0, "hash at once answered {number}");
 }
 
@@ -36,13 +36,13 @@ fn dwombarine(edition: u64, message: &[u8], out: &mut [u8]) {
 fn in_pieces(edition: u64, message: &[u8], table: &mut [u64; 30]) {
     let numbers = unsafe {
         [
-            bench_lay_out(table.as_mut_ptr(), table.len(), 1),
-            bench_open(table.as_mut_ptr(), table.len(), 0, edition),
+            dw_lay_out(table.as_mut_ptr(), table.len(), 1),
+            dw_open(table.as_mut_ptr(), table.len(), 0, edition),
         ]
     };
     assert_eq!(numbers, [0, 0], "a bay is not opened");
     for piece in message.chunks(4096) {
-        let number = unsafe { bench_add(table.as_mut_ptr(), table.len(), 0, piece.as_ptr(), piece.len()) };
+        let number = unsafe { dw_add(table.as_mut_ptr(), table.len(), 0, piece.as_ptr(), piece.len()) };
         assert_eq!(number, 0, "add answered {number}");
     }
 }

@@ -1,0 +1,164 @@
+// Dwombarine under C names, for include/dwombarine.h. Each function is the call of the same name: it answers that call's number, and leaves in
+// all that is lent to it what that call leaves. A slice is a pointer and a length.
+ghost use mathlib.Core.List.{[]};
+ghost use mathlib.Core.Path.{_≡_};
+ghost use Rattle.answers.specs.Judged.{first, after, lent};
+ghost use Rattle.bays.specs.Calls.{Call, tests, leaves, toldEdition, toldCount};
+ghost use Rattle.lists.specs.Calls.{found, judgeTests};
+ghost use Rattle.sha2.specs.Hash.{hashTests, hashed};
+ghost use Rattle.tree.specs.Tree.{treeTests, rooted};
+ghost use Rattle.capi.specs.Lookup.{foundNumber, foundAt, foundLength};
+use lists::Found;
+
+#[no_mangle]
+pub extern "C" fn dw_hash(
+    edition: u64,
+    message: &[u8],
+    closing: u8,
+    bits: u64,
+    out: &mut [u8],
+) -> u64
+    ensures { λ r. ⌜ r ≡ first (hashTests edition (now (message .entry)) closing bits (now (out .entry))) ⌝ }
+    ensures { λ r.
+        ⌜ now (out .exit) ≡ after (first (hashTests edition (now (message .entry)) closing bits (now (out .entry)))) (now (out .entry))
+        (hashed edition (now (message .entry)) closing bits (now (out .entry))) ⌝ }
+{
+    answers::number(sha2::hash::hash(edition, message, closing, bits, out))
+}
+
+#[no_mangle]
+pub extern "C" fn dw_lay_out(table: &mut [u64], bays: u64) -> u64
+    ensures { λ r. ⌜ r ≡ first (tests (now (table .entry)) (Call.layOut bays)) ⌝ }
+    ensures { λ r.
+        ⌜ lent (now (table .exit)) [] ≡ after (first (tests (now (table .entry)) (Call.layOut bays)))
+        (lent (now (table .entry)) []) (leaves (now (table .entry)) (Call.layOut bays)) ⌝ }
+{
+    answers::number(bays::calls::lay_out(table, bays))
+}
+
+#[no_mangle]
+pub extern "C" fn dw_open(table: &mut [u64], bay: u64, edition: u64) -> u64
+    ensures { λ r. ⌜ r ≡ first (tests (now (table .entry)) (Call.opening bay edition)) ⌝ }
+    ensures { λ r.
+        ⌜ lent (now (table .exit)) [] ≡ after (first (tests (now (table .entry)) (Call.opening bay edition)))
+        (lent (now (table .entry)) []) (leaves (now (table .entry)) (Call.opening bay edition)) ⌝ }
+{
+    answers::number(bays::calls::open(table, bay, edition))
+}
+
+#[no_mangle]
+pub extern "C" fn dw_add(table: &mut [u64], bay: u64, piece: &[u8]) -> u64
+    ensures { λ r. ⌜ r ≡ first (tests (now (table .entry)) (Call.adding bay (now (piece .entry)))) ⌝ }
+    ensures { λ r.
+        ⌜ lent (now (table .exit)) [] ≡ after (first (tests (now (table .entry)) (Call.adding bay (now (piece .entry)))))
+        (lent (now (table .entry)) []) (leaves (now (table .entry)) (Call.adding bay (now (piece .entry)))) ⌝ }
+{
+    answers::number(bays::calls::add(table, bay, piece))
+}
+
+#[no_mangle]
+pub extern "C" fn dw_close(
+    table: &mut [u64],
+    bay: u64,
+    closing: u8,
+    bits: u64,
+    out: &mut [u8],
+) -> u64
+    ensures { λ r. ⌜ r ≡ first (tests (now (table .entry)) (Call.closing bay closing bits (now (out .entry)))) ⌝ }
+    ensures { λ r.
+        ⌜ lent (now (table .exit)) (now (out .exit)) ≡ after (first (tests (now (table .entry)) (Call.closing bay closing bits (now (out .entry)))))
+        (lent (now (table .entry)) (now (out .entry))) (leaves (now (table .entry)) (Call.closing bay closing bits (now (out .entry)))) ⌝ }
+{
+    answers::number(bays::calls::close(table, bay, closing, bits, out))
+}
+
+#[no_mangle]
+pub extern "C" fn dw_save(table: &[u64], bay: u64, out: &mut [u8]) -> u64
+    ensures { λ r. ⌜ r ≡ first (tests (now (table .entry)) (Call.saving bay (now (out .entry)))) ⌝ }
+    ensures { λ r.
+        ⌜ lent (now (table .exit)) (now (out .exit)) ≡ after (first (tests (now (table .entry)) (Call.saving bay (now (out .entry)))))
+        (lent (now (table .entry)) (now (out .entry))) (leaves (now (table .entry)) (Call.saving bay (now (out .entry)))) ⌝ }
+{
+    answers::number(bays::calls::save(table, bay, out))
+}
+
+#[no_mangle]
+pub extern "C" fn dw_load(table: &mut [u64], bay: u64, record: &[u8]) -> u64
+    ensures { λ r. ⌜ r ≡ first (tests (now (table .entry)) (Call.loading bay (now («record» .entry)))) ⌝ }
+    ensures { λ r.
+        ⌜ lent (now (table .exit)) [] ≡ after (first (tests (now (table .entry)) (Call.loading bay (now («record» .entry)))))
+        (lent (now (table .entry)) []) (leaves (now (table .entry)) (Call.loading bay (now («record» .entry)))) ⌝ }
+{
+    answers::number(bays::calls::load(table, bay, record))
+}
+
+#[no_mangle]
+pub extern "C" fn dw_drop(table: &mut [u64], bay: u64) -> u64
+    ensures { λ r. ⌜ r ≡ first (tests (now (table .entry)) (Call.dropping bay)) ⌝ }
+    ensures { λ r.
+        ⌜ lent (now (table .exit)) [] ≡ after (first (tests (now (table .entry)) (Call.dropping bay)))
+        (lent (now (table .entry)) []) (leaves (now (table .entry)) (Call.dropping bay)) ⌝ }
+{
+    answers::number(bays::calls::drop(table, bay))
+}
+
+// Edition and count are written in every case: both 0 for an empty bay and where the call is refused.
+#[no_mangle]
+pub extern "C" fn dw_ask(table: &[u64], bay: u64, edition: &mut u64, count: &mut u64) -> u64
+    ensures { λ r. ⌜ r ≡ first (tests (now (table .entry)) (Call.asking bay)) ⌝ }
+    ensures { λ r.
+        ⌜ now (edition .exit) ≡ after (first (tests (now (table .entry)) (Call.asking bay))) 0
+        (toldEdition (now (table .entry)) (Call.asking bay)) ⌝ }
+    ensures { λ r.
+        ⌜ now (count .exit) ≡ after (first (tests (now (table .entry)) (Call.asking bay))) 0
+        (toldCount (now (table .entry)) (Call.asking bay)) ⌝ }
+{
+    let asked = bays::calls::ask(table, bay);
+    let answer = asked.answer;
+    *edition = asked.edition;
+    *count = asked.count;
+    answers::number(answer)
+}
+
+#[no_mangle]
+pub extern "C" fn dw_tree(map: &[u8], out: &mut [u8]) -> u64
+    ensures { λ r. ⌜ r ≡ first (treeTests (now (map .entry)) (now (out .entry))) ⌝ }
+    ensures { λ r.
+        ⌜ now (out .exit) ≡ after (first (treeTests (now (map .entry)) (now (out .entry)))) (now (out .entry))
+        (rooted (now (map .entry)) (now (out .entry))) ⌝ }
+{
+    answers::number(tree::whole::tree(map, out))
+}
+
+#[no_mangle]
+pub extern "C" fn dw_judge(list: &[u8], name: &[u8], digest: &[u8]) -> u64
+    ensures { λ r. ⌜ r ≡ first (judgeTests (now (list .entry)) (now (name .entry)) (now (digest .entry))) ⌝ }
+{
+    answers::number(lists::judge(list, name, digest))
+}
+
+// Place and length of the part are written in every case: both 0 where it is empty.
+#[no_mangle]
+pub extern "C" fn dw_lookup(list: &[u8], name: &[u8], at: &mut usize, len: &mut usize) -> u64
+    ensures { λ r. ⌜ r ≡ foundNumber (found (now (list .entry)) (now (name .entry))) ⌝ }
+    ensures { λ r. ⌜ now (at .exit) ≡ foundAt (found (now (list .entry)) (now (name .entry))) ⌝ }
+    ensures { λ r. ⌜ now (len .exit) ≡ foundLength (found (now (list .entry)) (now (name .entry))) ⌝ }
+{
+    match lists::find(list, name) {
+        Found::At { start, len: count } => {
+            *at = start;
+            *len = count;
+            0
+        }
+        Found::NotListed => {
+            *at = 0;
+            *len = 0;
+            13
+        }
+        Found::NotAList => {
+            *at = 0;
+            *len = 0;
+            12
+        }
+    }
+}
