@@ -5,5 +5,6 @@ pub mod Written
 pub mod ByRules
 pub mod Walk
 pub mod Places
+pub mod ByNumber
 pub mod Lists
 pub mod Outcomes

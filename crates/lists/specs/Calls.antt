@@ -1,8 +1,10 @@
 -- What the calls on a list answer: document 01, "Digest list" (looking up) and "Calls and their numbers" (judge: 12, 13, 14).
--- `digestOf` is the digest of a name, `found` says where it lies, and `judgeTests` are the refusals of judge in their order.
+-- `digestOf` is the digest of a name, `found` says where it lies, `pairIn` has the pairs by number, and `judgeTests` are the refusals of
+-- judge in their order.
 use mathlib.Core.Bool.{Bool, true, false, cond, not}
 use mathlib.Core.List.{List, [], _∷_}
 use Prim.Native.Nat.{ℕ, _+_}
+use lib.ListN.{getD}
 use Rattle.answers.specs.Judged.{Test, _when_}
 use Rattle.lists.specs.declared.Found.{Found}
 use Rattle.lists.specs.Compare.{same}
@@ -30,6 +32,10 @@ placeIn name d at (p ∷ ps) = cond (same (p .name) name) (Found.At (at + 8) d) 
 -- where it lies in the list, or why it does not
 unfoldable pub found : List ℕ → List ℕ → Found
 found bs name = cond (accepted bs) (placeIn name (digestSizeIn bs) 16 (readList bs .pairs)) Found.NotAList
+
+-- the pair of that number, counted from 0; no bytes where there is none
+unfoldable pub pairIn : ℕ → List ℕ → Pair
+pairIn i bs = getD (readList bs .pairs) i (record { name = []; digest = [] })
 
 -- 12 not a digest list, 13 name not listed, 14 digest differs; a digest of another length differs
 unfoldable pub judgeTests : List ℕ → List ℕ → List ℕ → List Test

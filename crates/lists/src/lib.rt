@@ -1,8 +1,9 @@
 // Digest lists, document 01 "Digest list": the digest of a name in a list, and judging a digest by it.
 // `find` says where a digest lies; `lookup` hands that part of the list back, and `judge` compares with it. Any bytes are taken.
 mod names;
-mod order;
 mod rules;
+pub mod entries; // entries.rt: the names and digests by number
+pub mod order; // order.rt: bytes compared
 
 use answers::Answer;
 ghost use mathlib.Core.Bool.{true};
@@ -20,6 +21,12 @@ pub enum Found {
     NotListed,
     // the bytes are no digest list
     NotAList,
+}
+
+pub fn is_list(list: &[u8]) -> bool
+    ensures { λ r. ⌜ r ≡ accepted (now (list .entry)) ⌝ }
+{
+    rules::accepted(list)
 }
 
 // In an accepted list each name starts where the last one ends, so only its length is read.

@@ -3,7 +3,7 @@ ghost use mathlib.Core.Path.{_≡_};
 ghost use Rattle.lists.specs.Compare;
 
 // Bytes of another length differ.
-pub(crate) fn same(a: &[u8], b: &[u8]) -> bool
+pub fn same(a: &[u8], b: &[u8]) -> bool
     ensures { λ r. ⌜ r ≡ Compare.same (now (a .entry)) (now (b .entry)) ⌝ }
 {
     if a.len() != b.len() {
@@ -20,7 +20,7 @@ pub(crate) fn same(a: &[u8], b: &[u8]) -> bool
 }
 
 // Document 01: "ascending in byte order (a proper prefix comes first)".
-pub(crate) fn before(a: &[u8], b: &[u8]) -> bool
+pub fn before(a: &[u8], b: &[u8]) -> bool
     ensures { λ r. ⌜ r ≡ Compare.before (now (a .entry)) (now (b .entry)) ⌝ }
 {
     let mut i = 0;

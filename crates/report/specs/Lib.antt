@@ -1,0 +1,3 @@
+-- What the checker says: read from the top.
+pub mod Lines
+pub mod Files

@@ -1,0 +1,40 @@
+// A file through a bay: begun, its pieces taken one after the other, and judged at its end. A table of 30 words has room for the bay.
+ghost use mathlib.Core.Path.{_≡_};
+ghost use Rattle.lists.specs.Calls.{pairIn};
+ghost use Rattle.lists.specs.Layout.{editionIn};
+ghost use Rattle.report.specs.Files.{begun, taken, fits, judged, closed};
+use crate::Verdict;
+use lists::entries;
+
+// The bay is laid out anew, so that nothing of the last file is left.
+pub fn begin(table: &mut [u64], list: &[u8])
+    ensures { λ _. ⌜ now (table .exit) ≡ begun (now (table .entry)) (editionIn (now (list .entry))) ⌝ }
+{
+    bays::calls::lay_out(table, 1);
+    bays::calls::open(table, 0, entries::edition(list));
+}
+
+// Whether the piece was taken: a file of more than 2^40 bytes is not.
+pub fn take(table: &mut [u64], piece: &[u8]) -> bool
+    ensures { λ r. ⌜ r ≡ fits (now (table .entry)) (now (piece .entry)) ⌝ }
+    ensures { λ _. ⌜ now (table .exit) ≡ taken (now (table .entry)) (now (piece .entry)) ⌝ }
+{
+    answers::number(bays::calls::add(table, 0, piece)) == 0
+}
+
+// Closes the bay, and compares the digest with the one of that number in the list.
+pub fn judge(table: &mut [u64], list: &[u8], i: usize) -> Verdict
+    ensures { λ r.
+        ⌜ r ≡ judged (now (table .entry)) (editionIn (now (list .entry))) (pairIn i (now (list .entry)) .digest) ⌝ }
+    ensures { λ _. ⌜ now (table .exit) ≡ closed (now (table .entry)) ⌝ }
+{
+    let mut out = [0u8; 64];
+    if answers::number(bays::calls::close(table, 0, 0, 0, &mut out)) != 0 {
+        return Verdict::Bad;
+    }
+    let size = sha2::hashing::digest_bytes(entries::edition(list));
+    if lists::order::same(&out[..size], entries::digest(list, i)) {
+        return Verdict::Ok;
+    }
+    Verdict::Bad
+}

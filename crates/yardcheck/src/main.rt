@@ -1,0 +1,76 @@
+// The checker: document 01, "The program". It reads `yard.man` and the files that it lists from the folder in which it is started, and
+// writes a line for each and the counts. What is said of a file, and in which words, is `report`'s; here files are opened, read and
+// closed, and lines are written. Its memory is one list, one piece, one bay and one line, however long the files are.
+mod reading;
+
+use lists::entries;
+use report::Tally;
+use report::Verdict;
+use report::file;
+use report::lines;
+
+// The longest list: 256 entries with digests and names of 64 bytes.
+const LONGEST: usize = 34832;
+
+// A file is judged once it is read to its end.
+fn verdict(list: &[u8], i: usize, table: &mut [u64]) -> Verdict {
+    let fd = os::open_read(entries::name(list, i));
+    if fd < 0 {
+        return Verdict::Missing;
+    }
+    file::begin(table, list);
+    let ending = reading::pieces(fd, table);
+    libc::close(fd);
+    match ending {
+        reading::Ending::Whole => file::judge(table, list, i),
+        reading::Ending::TooLong => Verdict::Bad,
+        reading::Ending::Failed => Verdict::Missing,
+    }
+}
+
+// Writes the line of an entry, and counts it.
+fn entry(list: &[u8], i: usize, table: &mut [u64], tally: Tally) -> Tally {
+    let v = verdict(list, i, table);
+    let mut out = [0u8; 128];
+    let n = lines::line(v, entries::name(list, i), &mut out);
+    io::write_all(1, &out[..n]);
+    lines::counted(tally, v)
+}
+
+fn check(list: &[u8]) {
+    let mut table = [0u64; 30];
+    let mut tally = Tally {
+        listed: 0,
+        ok: 0,
+        bad: 0,
+        missing: 0,
+    };
+    let mut i = 0;
+    while i < entries::count(list) {
+        let t = entry(list, i, &mut table, tally);
+        tally = t;
+        i += 1;
+    }
+    let mut out = [0u8; 128];
+    let n = lines::counts(tally, &mut out);
+    io::write_all(1, &out[..n]);
+}
+
+fn checked(list: &[u8]) -> bool {
+    if list.len() > LONGEST {
+        return false;
+    }
+    if !lists::is_list(list) {
+        return false;
+    }
+    check(list);
+    true
+}
+
+fn main() {
+    let mut buffer = [0u8; 34833];
+    let n = reading::whole(b"yard.man", &mut buffer);
+    if !checked(&buffer[..n]) {
+        io::write_all(1, b"NOT A LIST\n");
+    }
+}
