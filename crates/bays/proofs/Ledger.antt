@@ -53,7 +53,7 @@ module _ {L : ℕ} {t : List ℕ} {l : List Slot} (f : Follows L t l) (c : Call)
   both : Step L t l c
   both = step f c g
 
-  same-seen : run t c .seen ≡ keep L l c .seen
+  pub same-seen : run t c .seen ≡ keep L l c .seen
   unfolding run keep
   same-seen =
       seen-eq (both .answer)

@@ -12,7 +12,7 @@ use lib.ListN.{length, getD, drop, length-map, length-drop, List·getD-map, List
 use lib.Seq.{getD-drop}
 use borrow.Author.Tests.{lt-ltb, le-ltb, ltb-true}
 use Rattle.fips.specs.declared.EditionSizes.{EditionSizes}
-use Rattle.fips.specs.Words.{w32, w64, word}
+use Rattle.fips.specs.Words.{Width, w32, w64, word}
 use Rattle.fips.specs.Editions.{Edition, none, editions, edition, known, width, digestBytes, start, startRows}
 use Rattle.fips.specs.ByteForm.{blockBytes}
 use Rattle.fips.specs.Sizes.{sizesOf}
@@ -128,6 +128,12 @@ sizes-unknown e p = go (known e) refl p
         known e ≡ false
     go true q r = let z : _≡_ {A = ℕ} 0 1 = cc in absurd (omega arith)
     go false q r = q
+
+-- and the longest digest has 64 bytes
+pub digest-short : (e : ℕ) → digestBytes e ≤ 64
+digest-short e =
+    ⊎-elim (λ (q : width e ≡ w32). omega (arith, digest-within e, ap (λ (w : Width). w .bytes) q))
+    (λ (q : width e ≡ w64). omega (arith, digest-within e, ap (λ (w : Width). w .bytes) q)) (width-cases e)
 
 -- an edition has a digest of some bytes, and no other number has
 pub digest-none : (e : ℕ) → known e ≡ false → digestBytes e ≡ 0

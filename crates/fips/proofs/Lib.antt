@@ -7,4 +7,5 @@ pub mod Roots
 pub mod Chain
 pub mod Rules
 pub mod Editions
+pub mod Digest
 pub mod Outcomes

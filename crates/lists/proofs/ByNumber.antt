@@ -13,7 +13,7 @@ use Rattle.bigendian.specs.BigEndian.{Bytes, number}
 use Rattle.lists.specs.Calls.{pairIn}
 use Rattle.lists.specs.Layout.{part, field, entrySize, pairAt, countIn, digestSizeIn, readPairs, readList}
 use Rattle.lists.specs.Lists.{Pair}
-use Rattle.lists.proofs.Editions.{digest-short}
+use Rattle.fips.proofs.Editions.{digest-short}
 
 -- from a place within, as many bytes as there are
 pub part-within : (bs : List ℕ) (at n start : ℕ) → start ≡ min at (length bs) →

@@ -18,7 +18,8 @@ use Rattle.lists.specs.Lists.{Pair, DigestList, nameAllowed, pairAllowed
 use Rattle.lists.specs.Layout.{entryBytes, entryRun, nameRun, entrySize, namesOf, wholeLength, header, listBytes}
 use Rattle.lists.specs.Layout.{part, field, readPairs, editionIn, countIn, readList}
 use Rattle.lists.proofs.Compare.{holds-at, cond-both}
-use Rattle.lists.proofs.Editions.{known-fits, digest-short, entries-bound}
+use Rattle.fips.proofs.Editions.{digest-short}
+use Rattle.lists.proofs.Editions.{known-fits, entries-bound}
 use Rattle.lists.proofs.Allowed.{name-short}
 
 -- ---- where the parts of an entry stand

@@ -1,3 +1,5 @@
 pub mod Putting
 pub mod Decimals
 pub mod Through
+pub mod Verdicts
+pub mod Whole

@@ -1,29 +1,22 @@
--- A file through a bay, call by call, and the verdict on it: document 01, "The program": "each file in 4,096-byte pieces through a bay".
--- `verdict` is what a reader must believe; that the calls give it is the theorem `file-verdict`.
-use Prim.Native.Nat.{ℕ, zero, suc}
-use mathlib.Core.Bool.{Bool, true, false, cond, _&&_}
+-- A file through a bay, call by call: document 01, "The program": "each file in 4,096-byte pieces through a bay".
+-- That the calls give the verdict of `Report` is the theorem `file-verdict`; that the program writes the whole of it is `program-output`.
+use Prim.Native.Nat.{ℕ, _+_}
+use mathlib.Core.Bool.{Bool, true, cond, _&&_}
 use mathlib.Core.List.{List, [], _∷_, _++_}
-use lib.Dec.{eqb, leb}
+use mathlib.Core.Path.{_≡_}
+use lib.Dec.{eqb}
 use lib.ListN.{length, take, replicate}
-use Rattle.fips.specs.Editions.{digest, digestBytes}
-use Rattle.fips.specs.ByteForm.{message}
-use Rattle.sha2.specs.Hash.{limit}
+use Rattle.bigendian.specs.BigEndian.{Bytes}
+use Rattle.fips.specs.Editions.{digestBytes}
+use Rattle.lists.specs.Calls.{pairIn}
 use Rattle.lists.specs.Compare.{same}
-use Rattle.bays.specs.Calls.{Call, layOut, opening, adding, closing, Ran, run}
+use Rattle.lists.specs.Layout.{editionIn}
+use Rattle.bays.specs.Table.{roomFor}
+use Rattle.bays.specs.Calls.{layOut, opening, adding, closing, Ran, run}
+use Rattle.report.specs.declared.Tally.{Tally}
 use Rattle.report.specs.declared.Verdict.{Verdict}
-
--- what comes of a file: it cannot be opened or read, or its bytes are read to the end
-pub data Came : Type 0 where
-  nothing : Came
-  bytes : List ℕ → Came
-
--- "A file that cannot be opened or read is MISSING; one over 2^40 bytes is BAD."
-unfoldable pub verdict : ℕ → List ℕ → Came → Verdict
-verdict edition listed nothing = Verdict.Missing
-verdict edition listed (bytes m) =
-    cond (leb (length m) limit && same (digest edition (message m 0 0)) listed) Verdict.Ok Verdict.Bad
-
--- ---- the calls
+use Rattle.report.specs.Lines.{lineOf, countLine, counted}
+use Rattle.report.specs.Report.{Came, nothing, bytes}
 
 -- one empty bay, and in it a message of the edition
 unfoldable pub begun : List ℕ → ℕ → List ℕ
@@ -50,3 +43,44 @@ judged t edition listed =
 unfoldable pub said : List ℕ → ℕ → List ℕ → List (List ℕ) → Verdict
 said t edition listed [] = judged t edition listed
 said t edition listed (p ∷ ps) = cond (fits t p) (said (taken t p) edition listed ps) Verdict.Bad
+
+-- the pieces of a file, and its bytes
+abbrev pub AllBytes : List (List ℕ) → Type 0
+AllBytes [] = Unit {0}
+AllBytes (p ∷ ps) = Bytes p × AllBytes ps
+
+unfoldable pub joined : List (List ℕ) → List ℕ
+joined [] = []
+joined (p ∷ ps) = p ++ joined ps
+
+-- ---- the program
+
+-- a file as the program meets it: not opened, or not read to its end; or its pieces, and the words that lay where the table is laid out
+pub data File : Type 0 where
+  unread : File
+  pieces : (words : List ℕ) (ps : List (List ℕ)) → File
+
+-- pieces are bytes, and the words have room for a bay
+abbrev pub Met : File → Type 0
+Met unread = Unit {0}
+Met (pieces words ps) = (roomFor 1 (length words) ≡ true) × AllBytes ps
+
+abbrev pub AllMet : List File → Type 0
+AllMet [] = Unit {0}
+AllMet (f ∷ fs) = Met f × AllMet fs
+
+-- what came of it
+abbrev pub came : File → Came
+came unread = nothing
+came (pieces words ps) = bytes (joined ps)
+
+unfoldable pub saidOf : List ℕ → ℕ → File → Verdict
+saidOf bs i unread = Verdict.Missing
+saidOf bs i (pieces words ps) = said (begun words (editionIn bs)) (editionIn bs) (pairIn i bs .digest) ps
+
+-- what is written from entry i of the list on, where so many are counted already
+unfoldable pub writes : List ℕ → ℕ → List File → Tally → List ℕ
+writes bs i [] tally = countLine tally
+writes bs i (f ∷ fs) tally =
+    let v : Verdict = saidOf bs i f in
+    lineOf v (pairIn i bs .name) ++ writes bs (i + 1) fs (counted tally v)

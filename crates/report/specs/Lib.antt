@@ -1,3 +1,4 @@
 -- What the checker says: read from the top.
 pub mod Lines
+pub mod Report
 pub mod Files

@@ -10,27 +10,14 @@ use lib.Seq.{take-at, drop-at}
 use borrow.Author.Tests.{le-ltb}
 use Rattle.answers.specs.declared.Answer.{Answer}
 use Rattle.answers.specs.Judged.{Judged, first}
-use Rattle.bigendian.specs.Words.{fromWords}
-use Rattle.bigendian.proofs.Words.{length-fromWords}
-use Rattle.fips.specs.Editions.{known, edition, editions, width, digestBytes, start, digest}
-use Rattle.fips.specs.Constants.{hashFrom}
-use Rattle.fips.proofs.Chain.{hashFrom-eight}
-use Rattle.fips.proofs.Editions.{digest-within}
-use Rattle.fips.proofs.Rules.{start-eight}
+use Rattle.fips.specs.Editions.{known, edition, editions, digestBytes, digest}
+use Rattle.fips.proofs.Digest.{length-digest}
 use Rattle.sha2.specs.AtFront.{atFront}
 use Rattle.sha2.specs.Hash.{limit, closingFits, hashTests, hashed}
 use Rattle.sha2.proofs.AtFront.{atFront-room}
 use Rattle.tree.specs.Root.{nodeBytes, sha256, leaf, parent}
 
 -- ---- 32 bytes
-
-length-digest : (e : ℕ) (m : List Bool) → length (digest e m) ≡ digestBytes e
-unfolding digest
-length-digest e m =
-    let H = hashFrom (width e) (start e) m in
-    let eight = hashFrom-eight (width e) (start e) m (start-eight e) .count in
-    length-take (digestBytes e) (fromWords (width e .bytes) H)
-    ∙ omega (arith, length-fromWords (width e .bytes) H, ap (λ (n : ℕ). n * width e .bytes) eight, digest-within e)
 
 size : digestBytes 2 ≡ nodeBytes
 unfolding edition editions

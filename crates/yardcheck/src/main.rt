@@ -9,9 +9,6 @@ use report::Verdict;
 use report::file;
 use report::lines;
 
-// The longest list: 256 entries with digests and names of 64 bytes.
-const LONGEST: usize = 34832;
-
 // A file is judged once it is read to its end.
 fn verdict(list: &[u8], i: usize, table: &mut [u64]) -> Verdict {
     let fd = os::open_read(entries::name(list, i));
@@ -56,21 +53,15 @@ fn check(list: &[u8]) {
     io::write_all(1, &out[..n]);
 }
 
-fn checked(list: &[u8]) -> bool {
-    if list.len() > LONGEST {
-        return false;
-    }
-    if !lists::is_list(list) {
-        return false;
-    }
-    check(list);
-    true
-}
-
+// A buffer of one byte more than the longest list has: bytes that fill it are no list (`list-short` of `lists`), and nor are the no bytes
+// of a list that cannot be read.
 fn main() {
     let mut buffer = [0u8; 34833];
     let n = reading::whole(b"yard.man", &mut buffer);
-    if !checked(&buffer[..n]) {
+    let list = &buffer[..n];
+    if lists::is_list(list) {
+        check(list);
+    } else {
         io::write_all(1, b"NOT A LIST\n");
     }
 }

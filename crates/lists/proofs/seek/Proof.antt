@@ -12,7 +12,7 @@ use Rattle.lists.specs.Compare.{same}
 use Rattle.lists.specs.Layout.{part, field, countIn, digestSizeIn, readPairs, readList, accepted}
 use Rattle.lists.specs.Rules.{entryRight, entriesRight}
 use Rattle.lists.proofs.ByRules.{accepted-header, accepted-entries}
-use Rattle.lists.proofs.Editions.{digest-short}
+use Rattle.fips.proofs.Editions.{digest-short}
 use Rattle.lists.proofs.Walk.{one-less, entries-on, entries-first, entry-fits, place-on, place-over}
 use Rattle.lists.proofs.seek.Statement.{statement}
 use Rattle.lists.proofs.seek.Tie as tie

@@ -11,7 +11,7 @@ use Rattle.fips.specs.Editions.{digestBytes}
 use Rattle.lists.specs.Layout.{editionIn, countIn, accepted}
 use Rattle.lists.specs.Rules.{headerRight, entriesRight, byRules}
 use Rattle.lists.proofs.ByRules.{RightHeader, right-header, by-rules}
-use Rattle.lists.proofs.Editions.{digest-short}
+use Rattle.fips.proofs.Editions.{digest-short}
 use Rattle.lists.proofs.rules.accepted.Statement.{statement}
 use Rattle.lists.proofs.rules.accepted.Tie as tie
 

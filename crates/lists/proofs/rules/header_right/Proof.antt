@@ -12,7 +12,8 @@ use Rattle.fips.specs.Editions.{known, digestBytes}
 use Rattle.lists.specs.Layout.{editionIn, countIn}
 use Rattle.lists.specs.Rules.{offsetsRight, headerRight}
 use Rattle.lists.proofs.Compare.{fails-at, holds-on, holds-last}
-use Rattle.lists.proofs.Editions.{digest-short, entries-bound}
+use Rattle.fips.proofs.Editions.{digest-short}
+use Rattle.lists.proofs.Editions.{entries-bound}
 use Rattle.lists.proofs.rules.header_right.Statement.{statement}
 use Rattle.lists.proofs.rules.header_right.Tie as tie
 

@@ -10,7 +10,7 @@ use borrow.Author.Needs.{needs}
 use Rattle.fips.specs.Editions.{digestBytes}
 use Rattle.lists.specs.Calls.{pairIn}
 use Rattle.lists.specs.Layout.{editionIn}
-use Rattle.lists.proofs.Editions.{digest-short}
+use Rattle.fips.proofs.Editions.{digest-short}
 use Rattle.report.specs.declared.Verdict.{Verdict}
 use Rattle.report.specs.Files.{judged, closed}
 use Rattle.report.proofs.Through.{unclosed, compares}

@@ -1,3 +1,4 @@
+-- `yardcheck::reading::pieces` is safe and ends: the loop keeps the lengths, and its measure is how many turns are left.
 use Prim.Native.Nat.{ℕ, _≤_}
 use mathlib.Core.Path.{_≡_}
 use lib.ListN.{length}

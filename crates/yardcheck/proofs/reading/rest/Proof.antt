@@ -1,3 +1,4 @@
+-- `yardcheck::reading::rest` is safe and ends: what was read stays within the buffer, and the measure is how many turns are left.
 use Prim.Native.Nat.{ℕ, _≤_}
 use mathlib.Core.List.{List}
 use mathlib.Core.Path.{_≡_, sym}
