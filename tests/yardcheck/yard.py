@@ -59,9 +59,10 @@ def put(folder, name, data):
             file.write(data)
 
 
-def yard(title, data, reads, make=None, folder=b"yard", words=(), **how):
+def yard(title, data, reads, make=None, folder=b"yard", given=None, words=(), **how):
     """yard.man holds `data` (None: there is no such file) and each name opens what `reads` has for it: a file with that content, where
-    `make`, which is called first with the folder, has not put something else there."""
+    `make`, which is called first with the folder, has not put something else there. The program is given the folder's whole path, or
+    what `given` says, which it finds from the folder above. `words` stand before the command."""
     with tempfile.TemporaryDirectory() as above:
         path = os.path.join(os.fsencode(above), folder)
         os.mkdir(path)
@@ -71,7 +72,7 @@ def yard(title, data, reads, make=None, folder=b"yard", words=(), **how):
             put(path, b"yard.man", data)
         for name, content in reads.items():
             put(path, name, content)
-        compare(title, run([*words, *command, path], **how), report(data, reads))
+        compare(title, run([*words, *command, given or path], cwd=above, **how), report(data, reads))
 
 
 def some_name(longest=64):
