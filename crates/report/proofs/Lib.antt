@@ -3,3 +3,4 @@ pub mod Decimals
 pub mod Through
 pub mod Verdicts
 pub mod Whole
+pub mod Outcomes
