@@ -19,7 +19,8 @@ use Rattle.bays.specs.Table.{laidOut, roomFor}
 use Rattle.bays.specs.Calls.{Call, layOut, opening, adding, closing, saving, loading, asking, dropping, outputOf, tests, leaves, Seen, Ran, run}
 use Rattle.bays.specs.Ledger.{Slot, nothing, openedEntry, with, digestOf, ledgerTests, kept, Kept, keep}
 use Rattle.bays.specs.Promise.{Passed, AllPassed, seenOf, saidOf, Promise, Undamaged}
-use Rattle.bays.proofs.Follows.{Follows, Step, Done, step, laid-follows, fits}
+use Rattle.bays.proofs.Follows.{Follows, laid-follows}
+use Rattle.bays.proofs.CallByCall.{Step, step, fits}
 
 -- ---- one call
 

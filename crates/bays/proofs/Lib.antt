@@ -9,6 +9,7 @@ pub mod Outcomes
 pub mod Runs
 pub mod Entries
 pub mod Follows
+pub mod CallByCall
 pub mod Ledger
 pub mod Alike
 pub mod CallersWords
