@@ -93,7 +93,7 @@ def of_paths():
     for folder in (b"a yard", b"yard\xc3\xa9", b"$HOME", b"*", b"'", b'"', b"a\\b", b";", b"..yard", b"line\nbreak", b"\xff", b"y" * 200):
         yard(f"a yard in a folder named {folder[:20]}", list_of(2, files), files, folder=folder)
         yard(f"a yard in a folder named {folder[:20]}, by its name", list_of(2, files), files, folder=folder, given=folder)
-    for folder, given in ((b"yard", b"./yard"), (b"yard", b"yard/"), (b"yard", b"./yard/../yard"), (b"-x", b"-x"), (b"--", b"--")):
+    for folder, given in ((b"yard", b"./yard"), (b"yard", b"yard/"), (b"yard", b"./yard/../yard"), (b"-x", b"-x"), (b"--", b"--"), (b"-", b"-")):
         yard(f"a yard in {folder}, given as {given}", list_of(2, files), files, folder=folder, given=given)
     data = list_of(2, {**files, b"yard.man": b"?"})
     yard("yard.man lists itself", data, {**files, b"yard.man": data})

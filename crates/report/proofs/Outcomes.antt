@@ -4,9 +4,10 @@ use Prim.Native.Nat.{ℕ}
 use mathlib.Core.Bool.{Bool}
 use mathlib.Core.List.{List}
 use mathlib.Core.Path.{_≡_, sym, _∙_}
+use Rattle.report.specs.declared.Ending.{Ending}
 use Rattle.report.specs.declared.Tally.{Tally}
 use Rattle.report.specs.declared.Verdict.{Verdict}
-use Rattle.report.specs.Files.{begun, fits, taken, judged, closed}
+use Rattle.report.specs.Files.{begun, fits, taken, endsAs, leftBy}
 use Rattle.report.specs.Lines.{lineOf, countLine, counted}
 use Rattle.report.proofs.Putting.{Put}
 
@@ -32,6 +33,6 @@ module _ (t : List ℕ) (l m : List ℕ) where
       (s ≡ fits t piece) × (m ≡ taken t piece) → (r ≡ s) × (l ≡ m)
   take-one-outcome piece r s p q = both _ _ _ _ _ _ p q
 
-  pub judge-one-outcome : (e : ℕ) (listed : List ℕ) (r s : Verdict) → (r ≡ judged t e listed) × (l ≡ closed t) →
-      (s ≡ judged t e listed) × (m ≡ closed t) → (r ≡ s) × (l ≡ m)
-  judge-one-outcome e listed r s p q = both _ _ _ _ _ _ p q
+  pub verdict-one-outcome : (d : Ending) (e : ℕ) (listed : List ℕ) (r s : Verdict) → (r ≡ endsAs d t e listed) × (l ≡ leftBy d t) →
+      (s ≡ endsAs d t e listed) × (m ≡ leftBy d t) → (r ≡ s) × (l ≡ m)
+  verdict-one-outcome d e listed r s p q = both _ _ _ _ _ _ p q

@@ -26,7 +26,7 @@ use Rattle.bays.specs.Ledger.{Slot, nothing, entry, Entry, openedEntry, with, d
 use Rattle.bays.proofs.Follows.{Follows}
 use Rattle.bays.proofs.Ledger.{laid, same-seen, still-follows, opened-digest}
 use Rattle.report.specs.declared.Verdict.{Verdict}
-use Rattle.report.specs.Files.{begun, fits, taken, judged, said, AllBytes, joined}
+use Rattle.report.specs.Files.{begun, fits, taken, judged, endsAs, said, AllBytes, joined}
 use Rattle.report.specs.Report.{bytes, verdict}
 
 -- ---- the ledger's side, of one bay
@@ -97,7 +97,7 @@ module _ (L e : ℕ) (listed : List ℕ) where
 
   from-here : (ps : List (List ℕ)) (t m : List ℕ) → Holds t m → Bytes m → length m ≤ limit → AllBytes ps →
       said t e listed ps ≡ verdict e listed (bytes (m ++ joined ps))
-  unfolding said joined
+  unfolding said joined endsAs
   from-here [] t m f b h g = at-end t m f b h ∙ ap (λ (l : List ℕ). verdict e listed (bytes l)) (sym (append-nil m))
   from-here (p ∷ ps) t m f b h g =
       go (ltb limit (length m + length p)) refl (λ held short. from-here ps (taken t p) (m ++ p) held (below-append m p b (g .0)) short (g .1))

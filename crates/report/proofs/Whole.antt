@@ -18,7 +18,7 @@ use Rattle.lists.proofs.Lists.{accepted-valid}
 use Rattle.lists.proofs.Written.{ValidList, valid-list}
 use Rattle.report.specs.declared.Tally.{Tally}
 use Rattle.report.specs.declared.Verdict.{Verdict}
-use Rattle.report.specs.Files.{File, unread, pieces, Met, AllMet, came, saidOf, writes}
+use Rattle.report.specs.Files.{File, unread, pieces, Met, AllMet, came, endsAs, saidOf, writes}
 use Rattle.report.specs.Lines.{more, counted, lineOf, countLine}
 use Rattle.report.specs.Report.{verdict, verdicts, lines, isOk, isBad, isMissing, sum, tallyOf, report, output}
 use Rattle.report.proofs.Verdicts.{file-verdict}
@@ -90,8 +90,8 @@ plus-plus t v vs = tally-eq (omega arith) (omega arith) (omega arith) (omega ari
 
 module _ (bs : List ℕ) (e : ℕ) (k : known e ≡ true) (is : e ≡ editionIn bs) where
   said-law : (i : ℕ) (f : File) → Met f → saidOf bs i f ≡ verdict e (pairIn i bs .digest) (came f)
-  unfolding saidOf verdict
-  said-law i unread g = refl
+  unfolding saidOf verdict endsAs
+  said-law i (unread table) g = refl
   said-law i (pieces words ps) g = rw (← is) (file-verdict words e (pairIn i bs .digest) ps (g .0) k (g .1))
 
   pair-on : (i : ℕ) → i < length (readList bs .pairs) → drop i (readList bs .pairs) ≡ pairIn i bs ∷ drop (i + 1) (readList bs .pairs)

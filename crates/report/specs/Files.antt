@@ -13,6 +13,7 @@ use Rattle.lists.specs.Compare.{same}
 use Rattle.lists.specs.Layout.{editionIn}
 use Rattle.bays.specs.Table.{roomFor}
 use Rattle.bays.specs.Calls.{layOut, opening, adding, closing, Ran, run}
+use Rattle.report.specs.declared.Ending.{Ending}
 use Rattle.report.specs.declared.Tally.{Tally}
 use Rattle.report.specs.declared.Verdict.{Verdict}
 use Rattle.report.specs.Lines.{lineOf, countLine, counted}
@@ -39,10 +40,21 @@ unfoldable pub judged : List ℕ → ℕ → List ℕ → Verdict
 judged t edition listed =
     cond (eqb (close t .seen .answer) 0 && same (take (digestBytes edition) (close t .seen .output)) listed) Verdict.Ok Verdict.Bad
 
--- what is said of a file that comes in pieces: it is judged at its end, and a piece that is not taken ends it
+-- the verdict by how reading ended, and what it leaves of the table
+unfoldable pub endsAs : Ending → List ℕ → ℕ → List ℕ → Verdict
+endsAs Ending.Whole t edition listed = judged t edition listed
+endsAs Ending.TooLong t edition listed = Verdict.Bad
+endsAs Ending.Unread t edition listed = Verdict.Missing
+
+unfoldable pub leftBy : Ending → List ℕ → List ℕ
+leftBy Ending.Whole t = closed t
+leftBy Ending.TooLong t = t
+leftBy Ending.Unread t = t
+
+-- what is said of a file that comes in pieces: a piece that is not taken ends it
 unfoldable pub said : List ℕ → ℕ → List ℕ → List (List ℕ) → Verdict
-said t edition listed [] = judged t edition listed
-said t edition listed (p ∷ ps) = cond (fits t p) (said (taken t p) edition listed ps) Verdict.Bad
+said t edition listed [] = endsAs Ending.Whole t edition listed
+said t edition listed (p ∷ ps) = cond (fits t p) (said (taken t p) edition listed ps) (endsAs Ending.TooLong (taken t p) edition listed)
 
 -- the pieces of a file, and its bytes
 abbrev pub AllBytes : List (List ℕ) → Type 0
@@ -55,14 +67,15 @@ joined (p ∷ ps) = p ++ joined ps
 
 -- ---- the program
 
--- a file as the program meets it: not opened, or not read to its end; or its pieces, and the words that lay where the table is laid out
+-- a file as the program meets it: not opened, or not read to its end, with what is then in the table; or its pieces, and the words that lay
+-- where the table is laid out
 pub data File : Type 0 where
-  unread : File
+  unread : (table : List ℕ) → File
   pieces : (words : List ℕ) (ps : List (List ℕ)) → File
 
 -- pieces are bytes, and the words have room for a bay
 abbrev pub Met : File → Type 0
-Met unread = Unit {0}
+Met (unread table) = Unit {0}
 Met (pieces words ps) = (roomFor 1 (length words) ≡ true) × AllBytes ps
 
 abbrev pub AllMet : List File → Type 0
@@ -71,11 +84,11 @@ AllMet (f ∷ fs) = Met f × AllMet fs
 
 -- what came of it
 abbrev pub came : File → Came
-came unread = nothing
+came (unread table) = nothing
 came (pieces words ps) = bytes (joined ps)
 
 unfoldable pub saidOf : List ℕ → ℕ → File → Verdict
-saidOf bs i unread = Verdict.Missing
+saidOf bs i (unread table) = endsAs Ending.Unread table (editionIn bs) (pairIn i bs .digest)
 saidOf bs i (pieces words ps) = said (begun words (editionIn bs)) (editionIn bs) (pairIn i bs .digest) ps
 
 -- what is written from entry i of the list on, where so many are counted already

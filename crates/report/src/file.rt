@@ -2,7 +2,8 @@
 ghost use mathlib.Core.Path.{_≡_};
 ghost use Rattle.lists.specs.Calls.{pairIn};
 ghost use Rattle.lists.specs.Layout.{editionIn};
-ghost use Rattle.report.specs.Files.{begun, taken, fits, judged, closed};
+ghost use Rattle.report.specs.Files.{begun, taken, fits, judged, closed, endsAs, leftBy};
+use crate::Ending;
 use crate::Verdict;
 use lists::entries;
 
@@ -23,7 +24,7 @@ pub fn take(table: &mut [u64], piece: &[u8]) -> bool
 }
 
 // Closes the bay, and compares the digest with the one of that number in the list.
-pub fn judge(table: &mut [u64], list: &[u8], i: usize) -> Verdict
+fn judge(table: &mut [u64], list: &[u8], i: usize) -> Verdict
     ensures { λ r.
         ⌜ r ≡ judged (now (table .entry)) (editionIn (now (list .entry))) (pairIn i (now (list .entry)) .digest) ⌝ }
     ensures { λ _. ⌜ now (table .exit) ≡ closed (now (table .entry)) ⌝ }
@@ -37,4 +38,17 @@ pub fn judge(table: &mut [u64], list: &[u8], i: usize) -> Verdict
         return Verdict::Ok;
     }
     Verdict::Bad
+}
+
+// The verdict on the file of that number.
+pub fn verdict(ending: Ending, table: &mut [u64], list: &[u8], i: usize) -> Verdict
+    ensures { λ r.
+        ⌜ r ≡ endsAs ending (now (table .entry)) (editionIn (now (list .entry))) (pairIn i (now (list .entry)) .digest) ⌝ }
+    ensures { λ _. ⌜ now (table .exit) ≡ leftBy ending (now (table .entry)) ⌝ }
+{
+    match ending {
+        Ending::Whole => judge(table, list, i),
+        Ending::TooLong => Verdict::Bad,
+        Ending::Unread => Verdict::Missing,
+    }
 }

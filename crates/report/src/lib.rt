@@ -13,6 +13,16 @@ pub enum Verdict {
     Missing,
 }
 
+// How reading a file ended.
+pub enum Ending {
+    // all of its bytes were taken
+    Whole,
+    // a piece was not: the file is longer than document 01's limit
+    TooLong,
+    // it could not be opened, or not be read to its end
+    Unread,
+}
+
 // How many files were judged, and how many of them each way.
 pub struct Tally {
     pub listed: u64,

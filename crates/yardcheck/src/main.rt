@@ -5,29 +5,13 @@ mod reading;
 
 use lists::entries;
 use report::Tally;
-use report::Verdict;
 use report::file;
 use report::lines;
 
-// A file is judged once it is read to its end.
-fn verdict(list: &[u8], i: usize, table: &mut [u64]) -> Verdict {
-    let fd = os::open_read(entries::name(list, i));
-    if fd < 0 {
-        return Verdict::Missing;
-    }
-    file::begin(table, list);
-    let ending = reading::pieces(fd, table);
-    libc::close(fd);
-    match ending {
-        reading::Ending::Whole => file::judge(table, list, i),
-        reading::Ending::TooLong => Verdict::Bad,
-        reading::Ending::Failed => Verdict::Missing,
-    }
-}
-
 // Writes the line of an entry, and counts it.
 fn entry(list: &[u8], i: usize, table: &mut [u64], tally: Tally) -> Tally {
-    let v = verdict(list, i, table);
+    let ending = reading::through(entries::name(list, i), list, table);
+    let v = file::verdict(ending, table, list, i);
     let mut out = [0u8; 128];
     let n = lines::line(v, entries::name(list, i), &mut out);
     io::write_all(1, &out[..n]);

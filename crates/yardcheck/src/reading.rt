@@ -2,14 +2,8 @@
 // signal interrupts has failed only for that turn. Nothing says that a file ends, so each loop counts its turns down, from a number that
 // no run uses up.
 ghost use Rattle.io.specs.Counts.{Counts};
+use report::Ending;
 use report::file;
-
-pub(crate) enum Ending {
-    Whole,
-    // longer than document 01's limit
-    TooLong,
-    Failed,
-}
 
 fn failed(got: isize) -> bool {
     if got >= 0 {
@@ -52,13 +46,13 @@ pub(crate) fn whole(name: &[u8], buffer: &mut [u8]) -> usize
 }
 
 // Takes the rest of the file, piece by piece. An interrupted read brings a piece of no bytes, which changes nothing.
-pub(crate) fn pieces(fd: i32, table: &mut [u64]) -> Ending {
+fn pieces(fd: i32, table: &mut [u64]) -> Ending {
     let mut piece = [0u8; 4096];
     let mut turns = u64::MAX;
     while turns > 0 {
         let got = libc::read(fd, &mut piece);
         if failed(got) {
-            return Ending::Failed;
+            return Ending::Unread;
         }
         if got == 0 {
             return Ending::Whole;
@@ -69,5 +63,17 @@ pub(crate) fn pieces(fd: i32, table: &mut [u64]) -> Ending {
         }
         turns -= 1;
     }
-    Ending::Failed
+    Ending::Unread
+}
+
+// Leads a file through the bay of the table, in the list's edition.
+pub(crate) fn through(name: &[u8], list: &[u8], table: &mut [u64]) -> Ending {
+    let fd = os::open_read(name);
+    if fd < 0 {
+        return Ending::Unread;
+    }
+    file::begin(table, list);
+    let ending = pieces(fd, table);
+    libc::close(fd);
+    ending
 }
