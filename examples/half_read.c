@@ -1,4 +1,5 @@
-/* half_read FILE: the SHA-256 of a file that is read in two halves, with a restart between them; prints what sha256sum prints.
+/* half_read FILE: the SHA-256 of a file that is read in two halves, with a restart between them. Prints the digest, two blanks and the
+ * name, as sha256sum does of a plain name; one with a backslash or a line break sha256sum would write with escapes.
  *
  * First half: open a bay, add pieces, save the record. Then all memory is lost but the record, which a real program keeps on a disk.
  * Second half: lay the table out anew, load the record, ask how far the message was read, read on from there, close.

@@ -1,6 +1,7 @@
 /* Dwombarine: SHA-2 at once, half-read messages in a table of bays, chunk trees and digest lists.
  *
- * Every call takes anything, ends, and answers a number. Where several apply it is the first in the order that stands beside the call:
+ * Every call takes any numbers and any bytes, under the rules for pointers below, ends, and answers a number. Where several apply it is the
+ * first in the order that stands beside the call:
  *
  *    0 done                      5 no such edition                         10 not a record
  *    1 not a table               6 bay not sound                           11 not 1 to 64 bays, or too few words
@@ -15,6 +16,15 @@
  * with its count of elements and is not null, not even where the count is 0; what a call writes overlaps nothing else that is lent to it.
  * A refused call (not 0) writes nothing to a table or an output; ask and lookup then set their two values to 0.
  * Digests, records and roots are written at the front of the output, and the bytes behind them stay as they were.
+ * A table is aligned as uint64_t is, and so are the two values; bytes need no alignment.
+ *
+ * Threads: nothing is kept between calls but what stands in a table. Calls on different tables, and calls on none, may run at once, each
+ * with outputs of its own; on one table only dw_ask and dw_save may run beside each other.
+ *
+ * Machines: a record means the same on every machine. A table belongs to the machine it was made on: its words are in that machine's own
+ * byte order. size_t must have 64 bits, which is checked below.
+ *
+ * Linking: the library needs memcpy and memset of the C library, and nothing else.
  */
 #ifndef DWOMBARINE_H
 #define DWOMBARINE_H
@@ -25,6 +35,9 @@
 #ifdef __cplusplus
 extern "C" {
 #endif
+
+/* the library takes every count as 64 bits: where size_t has not so many, this does not compile */
+typedef char dw_size_t_has_64_bits[sizeof(size_t) == 8 ? 1 : -1];
 
 /* words of a table of n bays, n from 1 to 64; words behind them are the caller's and never change */
 #define DW_TABLE_WORDS(n) (4 + 26 * (n))

@@ -25,12 +25,25 @@ def count(good, title, *more):
 
 
 def run(words, timeout=120, **how):
-    """Standard output, exit status and standard error of a command; a status of None where it did not end."""
+    """Standard output (nothing, where `how` has another file for it), exit status and standard error of a command; a status of None where
+    it did not end."""
+    how = {"stdin": subprocess.DEVNULL, "stdout": subprocess.PIPE, "stderr": subprocess.PIPE, **how}
     try:
-        ran = subprocess.run(words, stdin=subprocess.DEVNULL, capture_output=True, timeout=timeout, **how)
-        return ran.stdout, ran.returncode, ran.stderr
+        ran = subprocess.run(words, timeout=timeout, **how)
+        return ran.stdout or b"", ran.returncode, ran.stderr
     except subprocess.TimeoutExpired as late:
         return late.stdout or b"", None, late.stderr or b""
+
+
+def run_unheard(words):
+    """The same where standard output takes nothing: on a full disk, closed, and a pipe that nobody reads."""
+    with open("/dev/full", "wb") as full:
+        yield "a full disk", run(words, stdout=full)
+    yield "closed", run(["sh", "-c", '"$@" >&-', "sh", *words])
+    unread, pipe = os.pipe()
+    os.close(unread)
+    yield "a broken pipe", run(words, stdout=pipe)
+    os.close(pipe)
 
 
 def compare(title, ran, expected):

@@ -5,13 +5,14 @@ Not tried: a file of over 2^40 bytes, which would have to be read to its end (a 
 """
 import os
 import resource
+import shutil
 import stat
 import tempfile
 from pathlib import Path
 
 from rules import ALLOWED, EDITIONS, LONGEST_LIST, digest, list_of, read, report, write
 from yard import PLAIN, changed, full_names, longer, rng, seed, shorter, some_files, spoilt
-from yard import command, compare, count, finish, put, root, run, yard
+from yard import command, compare, count, finish, put, root, run, run_unheard, yard
 
 yardlist = str(root / "tools/yardlist")
 
@@ -93,8 +94,10 @@ def of_paths():
     for folder in (b"a yard", b"yard\xc3\xa9", b"$HOME", b"*", b"'", b'"', b"a\\b", b";", b"..yard", b"line\nbreak", b"\xff", b"y" * 200):
         yard(f"a yard in a folder named {folder[:20]}", list_of(2, files), files, folder=folder)
         yard(f"a yard in a folder named {folder[:20]}, by its name", list_of(2, files), files, folder=folder, given=folder)
-    for folder, given in ((b"yard", b"./yard"), (b"yard", b"yard/"), (b"yard", b"./yard/../yard"), (b"-x", b"-x"), (b"--", b"--"), (b"-", b"-")):
-        yard(f"a yard in {folder}, given as {given}", list_of(2, files), files, folder=folder, given=given)
+    for given in (b"./yard", b"yard/", b"./yard/../yard"):
+        yard(f"a yard given as {given}", list_of(2, files), files, given=given)
+    for folder in (b"-x", b"--", b"-"):
+        yard(f"a yard in {folder}, by its name", list_of(2, files), files, folder=folder, given=folder)
     data = list_of(2, {**files, b"yard.man": b"?"})
     yard("yard.man lists itself", data, {**files, b"yard.man": data})
 
@@ -366,6 +369,82 @@ def of_yardlist():
     for words in (["no/such/folder"], ["crates.txt"], ["include", "0"], ["include", "7"], ["include", "x"], ["include", "2", "3"]):
         out, status, said = run([yardlist, *words], cwd=root)
         count((out, status) == (b"", 1) and said, f"yardlist refuses {words[-1]}", str((out, status, said)))
+    # files there can be opened and not read
+    out, status, said = run([yardlist, "/proc/self"])
+    named = said.startswith(b"yardlist: /proc/self/") and b"yard.man" not in said
+    count((out, status) == (b"", 1) and named, "yardlist names the file that cannot be read", str((out, status, said)))
+    with tempfile.TemporaryDirectory() as above:
+        files = some_files(3)
+        path = os.path.join(os.fsencode(above), rb"a\x62")
+        for name, content in files.items():
+            put(path, name, content)
+        for kind, (out, status, said) in run_unheard([yardlist, path]):
+            made = Path(os.fsdecode(path), "yard.man")
+            told = (out, status) == (b"", 2) and b"is written" in said
+            count(told and made.read_bytes() == list_of(2, files), f"yardlist, standard output is {kind}", str((out, status, said)))
+            made.unlink()
+        said = run([yardlist, path])[0]
+        count(rb"/a\x5cx62/yard.man: " in said, "yardlist shows a backslash as what it is", str(said))
+
+
+def refused(title, ran, told=b""):
+    """Status 3, nothing that could be taken for a result, and why on standard error."""
+    out, status, said = ran
+    count((out, status) == (b"", 3) and said and told in said, title, str(ran))
+
+
+def of_starts():
+    """How the script is started, over a yard where all is OK, so that every other end shows."""
+    files = some_files(3, 6)
+    data = list_of(2, files)
+    fine = report(data, files)
+    with tempfile.TemporaryDirectory() as above:
+        path = os.path.join(above, "yard")
+        for name, content in {b"yard.man": data, **files}.items():
+            put(os.fsencode(path), name, content)
+        here = {"cwd": path}
+
+        refused("a missing folder", run([*command, "none"], **here), b"none")
+        refused("a missing folder, told as it was given", run([*command, r"a\nb\c"], **here), rb"a\nb\c")
+        refused("a file in the place of a folder", run([*command, "yard.man"], **here), b"yard.man")
+        refused("two folders", run([*command, ".", "."], **here), b"usage")
+        refused("an empty name", run([*command, ""], **here))
+        for kind, ran in run_unheard([*command, path]):
+            refused(f"standard output is {kind}", ran)
+
+        for target, link in ((command[0], "link"), ("link", "second"), (os.path.relpath(command[0], os.path.realpath(above)), "relative")):
+            os.symlink(target, os.path.join(above, link))
+            compare(f"a start through a link, {link}", run([os.path.join(above, link), path]), fine)
+            compare(f"a start through a link, {link}, by its name", run(["./" + link, "yard"], cwd=above), fine)
+            compare(f"a start through a link, {link}, on the sample yard", run(["./" + link], cwd=above), run(command)[:2])
+
+        os.mkdir(os.path.join(above, "-t"))
+        for place in ("-t", "./-t", os.path.join(above, "-t")):
+            compare(f"TMPDIR={place}", run([*command, "yard"], cwd=above, env={**os.environ, "TMPDIR": place}), fine)
+        count(not os.listdir(os.path.join(above, "-t")), "TMPDIR is left empty")
+        refused("a missing TMPDIR", run([*command, "yard"], cwd=above, env={**os.environ, "TMPDIR": "none"}))
+
+        kit = os.environ.get("RATTLE_HOME") or Path(shutil.which("rt")).resolve().parents[1]
+        without = {**os.environ, "PATH": path_without_rt(above)}
+        without.pop("RATTLE_HOME", None)
+        compare("the kit by RATTLE_HOME alone", run([*command, path], env={**without, "RATTLE_HOME": str(kit)}), fine)
+        refused("neither rt nor RATTLE_HOME", run([*command, path], env=without), b"rt")
+        refused("RATTLE_HOME is no kit", run([*command, path], env={**os.environ, "RATTLE_HOME": above}), b"kit")
+
+
+def path_without_rt(above):
+    """The PATH, with links to all else that is there in the place of a folder that has rt."""
+    places = []
+    for place in os.environ["PATH"].split(os.pathsep):
+        if shutil.which("rt", path=place):
+            instead = os.path.join(above, f"path{len(places)}")
+            os.mkdir(instead)
+            for name in os.listdir(place):
+                if name != "rt":
+                    os.symlink(os.path.join(os.path.abspath(place), name), os.path.join(instead, name))
+            place = instead
+        places.append(place)
+    return os.pathsep.join(places)
 
 
 def of_the_sample_yard():
@@ -399,4 +478,7 @@ if built:
     of_any_kind()
     of_yardlist()
     of_the_sample_yard()
+    # another command is given a folder and no more
+    if not os.environ.get("YARDCHECK"):
+        of_starts()
 finish()

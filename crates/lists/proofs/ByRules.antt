@@ -93,7 +93,7 @@ entry-again : (d : ℕ) (es : List ℕ) → Bytes es → entrySize d ≤ length 
 entry-again d es b h =
     rw (part-again 4 0 es b (omega arith), part-again 4 4 es b (omega arith), ← take-add 4 4 es, ← take-add 8 d es)
 
-length-readPairs : (n d : ℕ) (es bs : List ℕ) → length (readPairs n d es bs) ≡ n
+pub length-readPairs : (n d : ℕ) (es bs : List ℕ) → length (readPairs n d es bs) ≡ n
 unfolding readPairs
 length-readPairs zero d es bs = refl
 length-readPairs (suc n) d es bs = ap suc (length-readPairs n d (drop (entrySize d) es) bs)

@@ -99,3 +99,14 @@ Put at text out end left = (end ≡ behind at text out) × (left ≡ put at text
 -- one text, and then another behind it
 pub then : (at : ℕ) (a b out : List ℕ) {r s : ℕ} {mid left : List ℕ} → Put at a out r mid → Put r b mid s left → Put at (a ++ b) out s left
 then at a b out p q = (q .0 ∙ rw (p .0, p .1) (behind-behind at a b out), q .1 ∙ rw (p .0, p .1) (put-put at a b out))
+
+-- the same text under another name
+pub renamed : (at : ℕ) (a b out : List ℕ) {r : ℕ} {left : List ℕ} → a ≡ b → Put at a out r left → Put at b out r left
+renamed at a b out e p = rw (← e) p
+
+-- an output with room has the whole text, up to the place behind it
+pub put-whole : (text out : List ℕ) → length text ≤ length out → take (behind 0 text out) (put 0 text out) ≡ text
+unfolding put
+put-whole text out h =
+    let all : behind 0 text out ≡ length text = omega arith in
+    rw (atFront-room text out h, all) (take-append-seam text (drop (length text) out))

@@ -14,7 +14,7 @@ use Rattle.bays.proofs.Runs.{runs}
 use Rattle.fips.specs.Editions.{digestBytes}
 use Rattle.lists.specs.Compare.{same}
 use Rattle.report.specs.declared.Verdict.{Verdict}
-use Rattle.report.specs.Files.{begun, fits, taken, closed, judged}
+use Rattle.report.specs.Files.{begun, fits, afterPiece, afterClose, judged}
 
 module _ {t : List ℕ} where
   pub begins : {mid left : List ℕ} {r s : Answer} (e f : ℕ) → Outcome t [] (layOut 1) r mid [] → Outcome mid [] (opening 0 e) s left [] →
@@ -27,15 +27,15 @@ module _ {t : List ℕ} where
       ∙ runs mid (opening 0 e) q .1)
 
   pub takes : (piece : List ℕ) {left : List ℕ} {r : Answer} (n : ℕ) → Outcome t [] (adding 0 piece) r left [] → n ≡ numberOf r →
-      (eqb n 0 ≡ fits t piece) × (left ≡ taken t piece)
-  unfolding fits taken
+      (eqb n 0 ≡ fits t piece) × (left ≡ afterPiece t piece)
+  unfolding fits afterPiece
   takes piece n p h = (rw (h, runs t (adding 0 piece) p .0), sym (runs t (adding 0 piece) p .1))
 
   -- where the bay is not closed, the file is bad
   pub unclosed : {left to : List ℕ} {r : Answer} (n e : ℕ) (listed : List ℕ) →
       Outcome t (replicate 64 0) (closing 0 0 0 (replicate 64 0)) r left to → n ≡ numberOf r → (n ≡ 0 → ⊥) →
-      (Verdict.Bad ≡ judged t e listed) × (left ≡ closed t)
-  unfolding judged closed
+      (Verdict.Bad ≡ judged t e listed) × (left ≡ afterClose t)
+  unfolding judged afterClose
   unclosed n e listed p h f =
       let ran = runs t (closing 0 0 0 (replicate 64 0)) p in
       (rw (ran .0, ← h, ne-eqb n 0 f), sym (ran .1))
@@ -44,8 +44,8 @@ module _ {t : List ℕ} where
   pub compares : {left to : List ℕ} {r : Answer} (n e f size : ℕ) (digest listed : List ℕ) (q b : Bool) →
       Outcome t (replicate 64 0) (closing 0 0 0 (replicate 64 0)) r left to → n ≡ numberOf r → n ≡ 0 →
       size ≡ digestBytes e → e ≡ f → digest ≡ listed → q ≡ same (take size to) digest → q ≡ b →
-      (cond b Verdict.Ok Verdict.Bad ≡ judged t f listed) × (left ≡ closed t)
-  unfolding judged closed
+      (cond b Verdict.Ok Verdict.Bad ≡ judged t f listed) × (left ≡ afterClose t)
+  unfolding judged afterClose
   compares {to = to} n e f size digest listed q b p h z d g l s k =
       let ran = runs t (closing 0 0 0 (replicate 64 0)) p in
       let is : same (take (digestBytes f) to) listed ≡ b = rw (← g, ← d, ← l, ← s) k in

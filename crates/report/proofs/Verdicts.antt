@@ -26,7 +26,7 @@ use Rattle.bays.specs.Ledger.{Slot, nothing, entry, Entry, openedEntry, with, d
 use Rattle.bays.proofs.Follows.{Follows}
 use Rattle.bays.proofs.Ledger.{laid, same-seen, still-follows, opened-digest}
 use Rattle.report.specs.declared.Verdict.{Verdict}
-use Rattle.report.specs.Files.{begun, fits, taken, judged, endsAs, said, AllBytes, joined}
+use Rattle.report.specs.Files.{begun, fits, afterPiece, judged, endsAs, said, AllBytes, joined}
 use Rattle.report.specs.Report.{bytes, verdict}
 
 -- ---- the ledger's side, of one bay
@@ -87,8 +87,8 @@ module _ (L e : ℕ) (listed : List ℕ) where
   refuses t m p f g h =
       rw (ap (λ (s : Seen). s .answer) (same-seen f (adding 0 p) g) ∙ over L (with (openedEntry e) m) p (omega arith))
 
-  takes : (t m p : List ℕ) → Holds t m → Bytes p → length m + length p ≤ limit → (fits t p ≡ true) × Holds (taken t p) (m ++ p)
-  unfolding fits taken
+  takes : (t m p : List ℕ) → Holds t m → Bytes p → length m + length p ≤ limit → (fits t p ≡ true) × Holds (afterPiece t p) (m ++ p)
+  unfolding fits afterPiece
   takes t m p f g h =
       let ledger = adds L (with (openedEntry e) m) p (omega arith) in (
         rw (ap (λ (s : Seen). s .answer) (same-seen f (adding 0 p) g) ∙ ledger .0),
@@ -100,11 +100,11 @@ module _ (L e : ℕ) (listed : List ℕ) where
   unfolding said joined endsAs
   from-here [] t m f b h g = at-end t m f b h ∙ ap (λ (l : List ℕ). verdict e listed (bytes l)) (sym (append-nil m))
   from-here (p ∷ ps) t m f b h g =
-      go (ltb limit (length m + length p)) refl (λ held short. from-here ps (taken t p) (m ++ p) held (below-append m p b (g .0)) short (g .1))
+      go (ltb limit (length m + length p)) refl (λ held short. from-here ps (afterPiece t p) (m ++ p) held (below-append m p b (g .0)) short (g .1))
     where
       go : (k : Bool) → ltb limit (length m + length p) ≡ k →
-          (Holds (taken t p) (m ++ p) → length (m ++ p) ≤ limit → said (taken t p) e listed ps ≡ verdict e listed (bytes (m ++ p ++ joined ps))) →
-          cond (fits t p) (said (taken t p) e listed ps) Verdict.Bad ≡ verdict e listed (bytes (m ++ (p ++ joined ps)))
+          (Holds (afterPiece t p) (m ++ p) → length (m ++ p) ≤ limit → said (afterPiece t p) e listed ps ≡ verdict e listed (bytes (m ++ p ++ joined ps))) →
+          cond (fits t p) (said (afterPiece t p) e listed ps) Verdict.Bad ≡ verdict e listed (bytes (m ++ (p ++ joined ps)))
       go true q rest =
           let long = ltb-true limit (length m + length p) q in
           let all : limit < length (m ++ (p ++ joined ps)) = simp length-append (omega arith) in

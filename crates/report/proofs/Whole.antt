@@ -1,26 +1,30 @@
--- All that the program writes: `program-output`. Its lines and counts, made entry by entry with `lineOf` and `counted`, are those of
--- `report`: the entries by number are the list's pairs, and counting one by one gives each sum.
+-- The program, step by step, writes the output: `program-output`. The entries by number are the list's pairs, counting one by one gives
+-- each sum, and a list that is too long to be read whole is none.
 use Prim.Native.Nat.{ℕ, zero, suc, _+_, _%_, _^_, _≤_, _<_}
-use mathlib.Core.Bool.{Bool, true, false}
-use mathlib.Core.List.{List, [], _∷_, _++_, append-assoc, map}
+use mathlib.Core.Bool.{Bool, true, false, cond, true≢false}
+use mathlib.Core.List.{List, [], _∷_, _++_, append-assoc}
 use mathlib.Core.Path.{_≡_, refl, sym, ap, ap₂, _∙_}
 use native.Mathlib.Nat.{mod-eq-of-lt}
 use native.Mathlib.Numerals.{add-one}
 use native.Mathlib.Omega.{arith}
-use lib.ListN.{length, drop, drop-of-length-le}
-use lib.Seq.{drop-cons}
-use Rattle.bays.specs.Table.{roomFor}
+use lib.Dec.{leb}
+use lib.ListN.{length, take, drop, drop-of-length-le, length-take}
+use lib.Seq.{drop-cons, take-all}
+use borrow.Author.Tests.{leb-true, leb-false}
+use Rattle.fips.specs.Constants.{ascii}
 use Rattle.fips.specs.Editions.{known}
 use Rattle.lists.specs.Calls.{pairIn}
-use Rattle.lists.specs.Layout.{editionIn, readList, accepted}
+use Rattle.lists.specs.Layout.{editionIn, countIn, digestSizeIn, readList, accepted}
 use Rattle.lists.specs.Lists.{Pair}
-use Rattle.lists.proofs.Lists.{accepted-valid}
+use Rattle.lists.proofs.ByRules.{accepted-header, length-readPairs}
+use Rattle.lists.proofs.Lists.{accepted-valid, list-short}
 use Rattle.lists.proofs.Written.{ValidList, valid-list}
 use Rattle.report.specs.declared.Tally.{Tally}
 use Rattle.report.specs.declared.Verdict.{Verdict}
-use Rattle.report.specs.Files.{File, unread, pieces, Met, AllMet, came, endsAs, saidOf, writes}
-use Rattle.report.specs.Lines.{more, counted, lineOf, countLine}
-use Rattle.report.specs.Report.{verdict, verdicts, lines, isOk, isBad, isMissing, sum, tallyOf, report, output}
+use Rattle.report.specs.Files.{joined}
+use Rattle.report.specs.Lines.{more, counted, lineOf, countLine, notAList}
+use Rattle.report.specs.Program.{File, unread, pieces, Met, came, listOf, saidOf, none, writes, program}
+use Rattle.report.specs.Report.{Came, nothing, bytes, verdict, verdicts, lines, isOk, isBad, isMissing, sum, tallyOf, report, byList, output}
 use Rattle.report.proofs.Verdicts.{file-verdict}
 
 -- ---- counting
@@ -59,7 +63,7 @@ count-one t v n r =
       | Verdict.Missing ↦ tally-eq listed (omega arith) (omega arith) (one-more (t .missing) (t .listed) (r .missings) (omega (arith, r .room)))
     ]
 
-at-most-one : (v : Verdict) → (isOk v ≤ 1) × (isBad v ≤ 1) × (isMissing v ≤ 1)
+pub at-most-one : (v : Verdict) → (isOk v ≤ 1) × (isBad v ≤ 1) × (isMissing v ≤ 1)
 at-most-one v =
     elim v [
       | Verdict.Ok ↦ (omega arith, omega arith, omega arith)
@@ -86,49 +90,88 @@ plus-plus : (t : Tally) (v : Verdict) (vs : List Verdict) → plus (plus t (v �
 unfolding sum
 plus-plus t v vs = tally-eq (omega arith) (omega arith) (omega arith) (omega arith)
 
--- ---- entry by entry
-
-module _ (bs : List ℕ) (e : ℕ) (k : known e ≡ true) (is : e ≡ editionIn bs) where
-  said-law : (i : ℕ) (f : File) → Met f → saidOf bs i f ≡ verdict e (pairIn i bs .digest) (came f)
-  unfolding saidOf verdict endsAs
-  said-law i (unread table) g = refl
-  said-law i (pieces words ps) g = rw (← is) (file-verdict words e (pairIn i bs .digest) ps (g .0) k (g .1))
-
-  pair-on : (i : ℕ) → i < length (readList bs .pairs) → drop i (readList bs .pairs) ≡ pairIn i bs ∷ drop (i + 1) (readList bs .pairs)
-  unfolding pairIn
-  pair-on i h = drop-cons (readList bs .pairs) i (record { name = []; digest = [] }) h ∙ rw add-one
-
-  from-entry : (fs : List File) (i : ℕ) (t : Tally) → AllMet fs → i + length fs ≡ length (readList bs .pairs) → Room t (length fs) →
-      writes bs i fs t
-      ≡ lines (drop i (readList bs .pairs)) (verdicts e (drop i (readList bs .pairs)) (map came fs))
-      ++ countLine (plus t (verdicts e (drop i (readList bs .pairs)) (map came fs)))
-  unfolding writes lines verdicts
-  from-entry [] i t g h r =
-      rw (drop-of-length-le (readList bs .pairs) {i = i} (omega arith)) (ap countLine (sym (plus-none t)))
-  from-entry (f ∷ fs) i t g h r =
-      let rest : List Pair = drop (i + 1) (readList bs .pairs) in
-      let v : Verdict = verdict e (pairIn i bs .digest) (came f) in
-      let vs : List Verdict = verdicts e rest (map came fs) in
-      let next : writes bs (i + 1) fs (plus t (v ∷ [])) ≡ lines rest vs ++ countLine (plus t (v ∷ vs)) =
-      from-entry fs (i + 1) (plus t (v ∷ [])) (g .1) (omega arith) (room-one t v (length fs) r)
-      ∙ ap (λ (u : Tally). lines rest vs ++ countLine u) (plus-plus t v vs) in
-      rw (pair-on i (omega arith), said-law i f (g .0), count-one t v (length fs) r)
-      (ap (λ (l : List ℕ). lineOf v (pairIn i bs .name) ++ l) next ∙ sym (append-assoc (lineOf v (pairIn i bs .name)) (lines rest vs) (countLine (plus t (v ∷ vs)))))
-
-abbrev none : Tally
-none = record { listed = 0; ok = 0; bad = 0; missing = 0 }
-
 plus-all : (vs : List Verdict) → plus none vs ≡ tallyOf vs
 plus-all vs = tally-eq (omega arith) (omega arith) (omega arith) (omega arith)
 
--- the program's lines for a list and a file for each of its entries
-pub program-output : (bs : List ℕ) (fs : List File) → accepted bs ≡ true → length fs ≡ length (readList bs .pairs) → AllMet fs →
-    writes bs 0 fs none ≡ output bs (map came fs)
-unfolding output report readList
-program-output bs fs a h g =
-    let v : ValidList (readList bs) = valid-list (readList bs) (accepted-valid bs a) in
-    let room : Room none (length fs) = record { room = omega (arith, v .few); oks = omega arith; bads = omega arith; missings = omega arith } in
-    rw a
-    (from-entry bs (editionIn bs) (v .edition-known) refl fs 0 none g (omega arith) room
-    ∙ ap (λ (u : Tally). lines (readList bs .pairs) (verdicts (editionIn bs) (readList bs .pairs) (map came fs)) ++ countLine u)
-    (plus-all (verdicts (editionIn bs) (readList bs .pairs) (map came fs))))
+-- ---- entry by entry
+
+module _ (files : List ℕ → File) (met : (name : List ℕ) → Met (files name)) where
+  abbrev folder : List ℕ → Came
+  folder name = came (files name)
+
+  module _ (bs : List ℕ) (e : ℕ) (k : known e ≡ true) (is : e ≡ editionIn bs) where
+    said-law : (i : ℕ) (f : File) → Met f → saidOf bs i f ≡ verdict e (pairIn i bs .digest) (came f)
+    unfolding saidOf verdict
+    said-law i unread g = refl
+    said-law i (pieces words ps) g = rw (← is) (file-verdict words e (pairIn i bs .digest) ps (g .0) k (g .1))
+
+    pair-on : (i : ℕ) → i < length (readList bs .pairs) → drop i (readList bs .pairs) ≡ pairIn i bs ∷ drop (i + 1) (readList bs .pairs)
+    unfolding pairIn
+    pair-on i h = drop-cons (readList bs .pairs) i (record { name = []; digest = [] }) h ∙ rw add-one
+
+    from-entry : (n i : ℕ) (t : Tally) → i + n ≡ length (readList bs .pairs) → Room t n →
+        writes files bs i n t
+        ≡ lines folder e (drop i (readList bs .pairs)) ++ countLine (plus t (verdicts folder e (drop i (readList bs .pairs))))
+    unfolding writes lines verdicts
+    from-entry zero i t h r =
+        rw (drop-of-length-le (readList bs .pairs) {i = i} (omega arith)) (ap countLine (sym (plus-none t)))
+    from-entry (suc n) i t h r =
+        let rest : List Pair = drop (i + 1) (readList bs .pairs) in
+        let name : List ℕ = pairIn i bs .name in
+        let v : Verdict = verdict e (pairIn i bs .digest) (folder name) in
+        let vs : List Verdict = verdicts folder e rest in
+        let later = from-entry n (i + 1) (plus t (v ∷ [])) (omega arith) (room-one t v n r) in
+        let next = later ∙ ap (λ (u : Tally). lines folder e rest ++ countLine u) (plus-plus t v vs) in
+        rw (pair-on i (omega arith), said-law i (files name) (met name), count-one t v n r)
+        (ap (λ (l : List ℕ). lineOf v name ++ l) next ∙ sym (append-assoc (lineOf v name) (lines folder e rest) (countLine (plus t (v ∷ vs)))))
+
+  listed : (bs : List ℕ) → accepted bs ≡ true → writes files bs 0 (countIn bs) none ≡ report folder (readList bs)
+  unfolding report readList
+  listed bs a =
+      let v : ValidList (readList bs) = valid-list (readList bs) (accepted-valid bs a) in
+      let count = length-readPairs (countIn bs) (digestSizeIn bs) (drop 16 bs) bs in
+      let room : Room none (countIn bs) = record { room = omega (arith, v .few, count); oks = omega arith; bads = omega arith; missings = omega arith } in
+      from-entry bs (editionIn bs) (v .edition-known) refl (countIn bs) 0 none (omega arith) room
+      ∙ ap (λ (u : Tally). lines folder (editionIn bs) (readList bs .pairs) ++ countLine u) (plus-all (verdicts folder (editionIn bs) (readList bs .pairs)))
+
+  -- bytes that are no list
+  too-long : (bs : List ℕ) → 34832 < length bs → accepted bs ≡ false
+  too-long bs h = go (accepted bs) refl
+    where
+      go : (b : Bool) → accepted bs ≡ b → b ≡ false
+      go true e = absurd (omega (arith, list-short bs e))
+      go false e = refl
+
+  no-bytes : accepted [] ≡ false
+  no-bytes = go (accepted []) refl
+    where
+      go : (b : Bool) → accepted [] ≡ b → b ≡ false
+      go true e = absurd (omega (arith, accepted-header [] e .long))
+      go false e = refl
+
+  either : (bs : List ℕ) →
+      cond (accepted bs) (writes files bs 0 (countIn bs) none) notAList ≡ cond (accepted bs) (report folder (readList bs)) notAList
+  either bs = go (accepted bs) refl
+    where
+      go : (b : Bool) → accepted bs ≡ b → cond b (writes files bs 0 (countIn bs) none) notAList ≡ cond b (report folder (readList bs)) notAList
+      go true e = listed bs e
+      go false e = refl
+
+  by-list : (f : File) → cond (accepted (listOf f)) (writes files (listOf f) 0 (countIn (listOf f)) none) notAList ≡ byList folder (came f)
+  unfolding byList
+  by-list unread = rw no-bytes
+  by-list (pieces words ps) = go (leb (length (joined ps)) 34833) refl
+    where
+      go : (b : Bool) → leb (length (joined ps)) 34833 ≡ b →
+          cond (accepted (take 34833 (joined ps))) (writes files (take 34833 (joined ps)) 0 (countIn (take 34833 (joined ps))) none) notAList
+          ≡ cond (accepted (joined ps)) (report folder (readList (joined ps))) notAList
+      go true e = rw (take-all 34833 (joined ps) (leb-true (length (joined ps)) 34833 e)) (either (joined ps))
+      go false e =
+          let long = leb-false (length (joined ps)) 34833 e in
+          let cut : length (take 34833 (joined ps)) ≡ 34833 = omega (arith, length-take 34833 (joined ps)) in
+          rw (too-long (joined ps) (omega arith), too-long (take 34833 (joined ps)) (omega arith))
+
+-- the program's lines are those of the folder that it meets
+pub program-output : (files : List ℕ → File) → ((name : List ℕ) → Met (files name)) → program files ≡ output (λ name. came (files name))
+unfolding program output
+program-output files met = by-list files met (files (ascii "yard.man"))

@@ -2,3 +2,4 @@
 pub mod Lines
 pub mod Report
 pub mod Files
+pub mod Program

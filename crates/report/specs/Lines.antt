@@ -1,5 +1,5 @@
 -- The lines that the checker writes: document 01, "The program".
--- `lineOf` is the line of a file, `countLine` the last one; `put` says where a text goes in an output.
+-- `lineOf` is the line of a file, `countLine` the last one, `notAList` the only one; `put` says where a text goes in an output.
 use Prim.Native.Nat.{ℕ, zero, suc, _+_, _/_, _%_, _^_, min}
 use Prim.Native.String.{String}
 use mathlib.Core.Bool.{cond}
@@ -19,12 +19,12 @@ word Verdict.Missing = "MISSING "
 unfoldable pub lineOf : Verdict → List ℕ → List ℕ
 lineOf v name = ascii (word v) ++ name ++ ascii "\n"
 
--- the last decimal digits of a number, at most so many, without zeros in front
+-- the decimal digits of a number, without zeros in front; its last ones where it has more than so many
 unfoldable pub digits : ℕ → ℕ → List ℕ
 digits zero n = []
 digits (suc k) n = cond (ltb n 10) [] (digits k (n / 10)) ++ ((48 + n % 10) ∷ [])
 
--- a number has no more digits than it counts, or one
+-- n + 1 digits are enough for n
 unfoldable pub decimal : ℕ → List ℕ
 decimal n = digits (n + 1) n
 
@@ -34,6 +34,9 @@ countLine t =
     ++ (decimal (t .ok) ++ ascii " ok, ")
     ++ (decimal (t .bad) ++ ascii " bad, ")
     ++ (decimal (t .missing) ++ ascii " missing\n")
+
+abbrev pub notAList : List ℕ
+notAList = ascii "NOT A LIST\n"
 
 -- one more, in 64 bits
 abbrev pub more : ℕ → ℕ

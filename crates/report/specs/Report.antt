@@ -1,4 +1,4 @@
--- What the checker says of a yard, whole: document 01, "The program". `output` is all that it writes.
+-- What the checker says of a yard, whole: document 01, "The program". `output` is all that it writes, of a folder.
 use Prim.Native.Nat.{ℕ, _+_}
 use mathlib.Core.Bool.{cond, _&&_}
 use mathlib.Core.List.{List, [], _∷_, _++_}
@@ -13,9 +13,9 @@ use Rattle.lists.specs.Layout.{readList, accepted}
 use Rattle.lists.specs.Lists.{Pair, DigestList}
 use Rattle.report.specs.declared.Tally.{Tally}
 use Rattle.report.specs.declared.Verdict.{Verdict}
-use Rattle.report.specs.Lines.{lineOf, countLine}
+use Rattle.report.specs.Lines.{lineOf, countLine, notAList}
 
--- what comes of a file: nothing where it cannot be opened or read to its end, or its bytes
+-- what comes of a name: nothing where no file of that name can be opened and read to its end, or the file's bytes
 pub data Came : Type 0 where
   nothing : Came
   bytes : List ℕ → Came
@@ -26,15 +26,15 @@ verdict edition listed nothing = Verdict.Missing
 verdict edition listed (bytes m) =
     cond (leb (length m) limit && same (digest edition (message m 0 0)) listed) Verdict.Ok Verdict.Bad
 
-unfoldable pub verdicts : ℕ → List Pair → List Came → List Verdict
-verdicts edition [] files = []
-verdicts edition (p ∷ ps) [] = []
-verdicts edition (p ∷ ps) (f ∷ files) = verdict edition (p .digest) f ∷ verdicts edition ps files
+-- the folder has what comes of each name
+module _ (folder : List ℕ → Came) where
+  unfoldable pub verdicts : ℕ → List Pair → List Verdict
+  verdicts edition [] = []
+  verdicts edition (p ∷ ps) = verdict edition (p .digest) (folder (p .name)) ∷ verdicts edition ps
 
-unfoldable pub lines : List Pair → List Verdict → List ℕ
-lines [] vs = []
-lines (p ∷ ps) [] = []
-lines (p ∷ ps) (v ∷ vs) = lineOf v (p .name) ++ lines ps vs
+  unfoldable pub lines : ℕ → List Pair → List ℕ
+  lines edition [] = []
+  lines edition (p ∷ ps) = lineOf (verdict edition (p .digest) (folder (p .name))) (p .name) ++ lines edition ps
 
 -- 1 for a verdict of that kind, 0 for another
 abbrev pub isOk : Verdict → ℕ
@@ -60,12 +60,13 @@ abbrev pub tallyOf : List Verdict → Tally
 tallyOf vs = record { listed = length vs; ok = sum isOk vs; bad = sum isBad vs; missing = sum isMissing vs }
 
 -- the lines in the list's order, and the counts
-unfoldable pub report : DigestList → List Came → List ℕ
-report l files =
-    let vs : List Verdict = verdicts (l .edition) (l .pairs) files in
-    lines (l .pairs) vs ++ countLine (tallyOf vs)
+unfoldable pub report : (List ℕ → Came) → DigestList → List ℕ
+report folder l = lines folder (l .edition) (l .pairs) ++ countLine (tallyOf (verdicts folder (l .edition) (l .pairs)))
 
--- "A list that is unreadable, over 34,832 bytes or malformed gives the one line `NOT A LIST`": no list is longer (`list-short`), and
--- of one that is unreadable there are no bytes
-unfoldable pub output : List ℕ → List Came → List ℕ
-output bs files = cond (accepted bs) (report (readList bs) files) (ascii "NOT A LIST\n")
+-- "A list that is unreadable, over 34,832 bytes or malformed gives the one line `NOT A LIST`". No list is longer, `list-short`.
+unfoldable pub byList : (List ℕ → Came) → Came → List ℕ
+byList folder nothing = notAList
+byList folder (bytes bs) = cond (accepted bs) (report folder (readList bs)) notAList
+
+unfoldable pub output : (List ℕ → Came) → List ℕ
+output folder = byList folder (folder (ascii "yard.man"))

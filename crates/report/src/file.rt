@@ -2,7 +2,7 @@
 ghost use mathlib.Core.Path.{_≡_};
 ghost use Rattle.lists.specs.Calls.{pairIn};
 ghost use Rattle.lists.specs.Layout.{editionIn};
-ghost use Rattle.report.specs.Files.{begun, taken, fits, judged, closed, endsAs, leftBy};
+ghost use Rattle.report.specs.Files.{begun, afterPiece, fits, judged, afterClose, endsAs, leftBy};
 use crate::Ending;
 use crate::Verdict;
 use lists::entries;
@@ -18,7 +18,7 @@ pub fn begin(table: &mut [u64], list: &[u8])
 // Whether the piece was taken: a file of more than 2^40 bytes is not.
 pub fn take(table: &mut [u64], piece: &[u8]) -> bool
     ensures { λ r. ⌜ r ≡ fits (now (table .entry)) (now (piece .entry)) ⌝ }
-    ensures { λ _. ⌜ now (table .exit) ≡ taken (now (table .entry)) (now (piece .entry)) ⌝ }
+    ensures { λ _. ⌜ now (table .exit) ≡ afterPiece (now (table .entry)) (now (piece .entry)) ⌝ }
 {
     answers::number(bays::calls::add(table, 0, piece)) == 0
 }
@@ -27,7 +27,7 @@ pub fn take(table: &mut [u64], piece: &[u8]) -> bool
 fn judge(table: &mut [u64], list: &[u8], i: usize) -> Verdict
     ensures { λ r.
         ⌜ r ≡ judged (now (table .entry)) (editionIn (now (list .entry))) (pairIn i (now (list .entry)) .digest) ⌝ }
-    ensures { λ _. ⌜ now (table .exit) ≡ closed (now (table .entry)) ⌝ }
+    ensures { λ _. ⌜ now (table .exit) ≡ afterClose (now (table .entry)) ⌝ }
 {
     let mut out = [0u8; 64];
     if answers::number(bays::calls::close(table, 0, 0, 0, &mut out)) != 0 {

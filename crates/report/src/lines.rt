@@ -1,9 +1,10 @@
-// The lines: one for each file, and the counts. Each is put at the front of an output, and its length is answered; a line that is longer
-// than the output is cut, and 128 bytes are enough for every name of a list and for all counts.
+// The lines: one for each file, the counts, and the one where there is no list. Each is put at the front of an output, and its length is
+// answered; a line that is longer than the output is cut, and in 128 bytes each is whole (`line-whole`, `counts-whole`).
 ghost use mathlib.Core.Path.{_≡_};
 ghost use mathlib.Core.List.{_++_};
 ghost use Rattle.fips.specs.Constants.{ascii};
-ghost use Rattle.report.specs.Lines.{put, behind, word, lineOf, decimal, countLine, counted};
+ghost use Rattle.lists.specs.Calls.{pairIn};
+ghost use Rattle.report.specs.Lines.{put, behind, word, lineOf, decimal, countLine, notAList, counted};
 ghost use Rattle.report.specs.Lines.{more as one-more};
 use crate::Tally;
 use crate::Verdict;
@@ -20,13 +21,21 @@ fn word(verdict: Verdict, out: &mut [u8]) -> usize
     }
 }
 
-pub fn line(verdict: Verdict, name: &[u8], out: &mut [u8]) -> usize
-    ensures { λ r. ⌜ r ≡ behind 0 (lineOf verdict (now (name .entry))) (now (out .entry)) ⌝ }
-    ensures { λ r. ⌜ now (out .exit) ≡ put 0 (lineOf verdict (now (name .entry))) (now (out .entry)) ⌝ }
+// The line of the file of that number in a list.
+pub fn line(verdict: Verdict, list: &[u8], i: usize, out: &mut [u8]) -> usize
+    ensures { λ r. ⌜ r ≡ behind 0 (lineOf verdict (pairIn i (now (list .entry)) .name)) (now (out .entry)) ⌝ }
+    ensures { λ r. ⌜ now (out .exit) ≡ put 0 (lineOf verdict (pairIn i (now (list .entry)) .name)) (now (out .entry)) ⌝ }
 {
     let at = word(verdict, out);
-    let end = append(out, at, name);
+    let end = append(out, at, lists::entries::name(list, i));
     append(out, end, b"\n")
+}
+
+pub fn not_a_list(out: &mut [u8]) -> usize
+    ensures { λ r. ⌜ r ≡ behind 0 notAList (now (out .entry)) ⌝ }
+    ensures { λ r. ⌜ now (out .exit) ≡ put 0 notAList (now (out .entry)) ⌝ }
+{
+    append(out, 0, b"NOT A LIST\n")
 }
 
 // A number and what it counts.

@@ -5,17 +5,40 @@ mod reading;
 
 use lists::entries;
 use report::Tally;
+use report::Verdict;
 use report::file;
 use report::lines;
 
-// Writes the line of an entry, and counts it.
-fn entry(list: &[u8], i: usize, table: &mut [u64], tally: Tally) -> Tally {
+// Writes the line of n bytes at the front of a buffer. One that cannot be written ends the program, so that what is written is always the
+// beginning of what is to be.
+fn write(out: &[u8], n: usize) -> bool {
+    if out.len() < n {
+        return false;
+    }
+    io::write_all(1, &out[0..n])
+}
+
+fn verdict(list: &[u8], i: usize, table: &mut [u64]) -> Verdict {
     let ending = reading::through(entries::name(list, i), list, table);
-    let v = file::verdict(ending, table, list, i);
+    file::verdict(ending, table, list, i)
+}
+
+fn write_line(verdict: Verdict, list: &[u8], i: usize) -> bool {
     let mut out = [0u8; 128];
-    let n = lines::line(v, entries::name(list, i), &mut out);
-    io::write_all(1, &out[..n]);
-    lines::counted(tally, v)
+    let n = lines::line(verdict, list, i, &mut out);
+    write(&out, n)
+}
+
+fn write_counts(tally: Tally) {
+    let mut out = [0u8; 128];
+    let n = lines::counts(tally, &mut out);
+    write(&out, n);
+}
+
+fn write_not_a_list() {
+    let mut out = [0u8; 128];
+    let n = lines::not_a_list(&mut out);
+    write(&out, n);
 }
 
 fn check(list: &[u8]) {
@@ -28,13 +51,15 @@ fn check(list: &[u8]) {
     };
     let mut i = 0;
     while i < entries::count(list) {
-        let t = entry(list, i, &mut table, tally);
+        let v = verdict(list, i, &mut table);
+        if !write_line(v, list, i) {
+            return;
+        }
+        let t = lines::counted(tally, v);
         tally = t;
         i += 1;
     }
-    let mut out = [0u8; 128];
-    let n = lines::counts(tally, &mut out);
-    io::write_all(1, &out[..n]);
+    write_counts(tally);
 }
 
 // A buffer of one byte more than the longest list has: bytes that fill it are no list (`list-short` of `lists`), and nor are the no bytes
@@ -46,6 +71,6 @@ fn main() {
     if lists::is_list(list) {
         check(list);
     } else {
-        io::write_all(1, b"NOT A LIST\n");
+        write_not_a_list();
     }
 }

@@ -12,7 +12,7 @@ use Rattle.lists.specs.Calls.{pairIn}
 use Rattle.lists.specs.Layout.{editionIn}
 use Rattle.fips.proofs.Editions.{digest-short}
 use Rattle.report.specs.declared.Verdict.{Verdict}
-use Rattle.report.specs.Files.{judged, closed}
+use Rattle.report.specs.Files.{judged, afterClose}
 use Rattle.report.proofs.Through.{unclosed, compares}
 use Rattle.report.proofs.file.judge.Statement.{statement}
 use Rattle.report.proofs.file.judge.Tie as tie
@@ -34,7 +34,7 @@ abbrev Ends : tie.After-same → Verdict → Type 0
 Ends c v =
     let k = c .before .before .before .before .before .before .before .before .before .before in
     let a = k .before .before .before .before .before .args in
-    (v ≡ judged (a .table .now) (editionIn (a .list .now)) (pairIn (a .i) (a .list .now) .digest)) × (k .close .last .0 ≡ closed (a .table .now))
+    (v ≡ judged (a .table .now) (editionIn (a .list .now)) (pairIn (a .i) (a .list .now) .digest)) × (k .close .last .0 ≡ afterClose (a .table .now))
 
 decided : (c : tie.After-same) (b : Bool) → c .same .result ≡ b → Ends c (cond b Verdict.Ok Verdict.Bad)
 decided c b e =
