@@ -7,6 +7,7 @@ from words import Words
 
 GUARD, GUARD_WORDS = 64, 64  # bytes before and after an output, words before and after the run
 FAR = 2 << 20  # more bytes than this are sent as their count
+ALIGNED = 16  # bytes are lent up to so many past a multiple of it
 PATTERN = bytes(range(256)) * 8
 NOTHING = struct.pack("<Q", 0)
 
@@ -33,14 +34,20 @@ def number(value):
     return struct.pack("<Q", value)
 
 
-class Call(namedtuple("Call", "name args")):
-    """One call: an output is its count of bytes and the first byte of its pattern; what is lent is bytes, or a count of zeros past FAR."""
+class Call(namedtuple("Call", "name args shifts")):
+    """One call: an output is its count of bytes and the first byte of its pattern; what is lent is bytes, or a count of zeros past FAR.
+    How far the bytes and the output lie past a multiple of ALIGNED are the digits of `shifts`, the lowest first."""
 
     def fields(self):
         return zip(SIGNATURES[self.name][1], self.args)
 
+    def alignments(self):
+        """Each field of bytes and how far it lies past a multiple of ALIGNED."""
+        lent = (field for field in SIGNATURES[self.name][1] if field in LENT or field == "out")
+        return {field: self.shifts // ALIGNED**i % ALIGNED for i, field in enumerate(lent)}
+
     def packed(self):
-        parts = [bytes([SIGNATURES[self.name][0]])]
+        parts = [bytes([SIGNATURES[self.name][0]]), number(self.shifts)]
         for field, value in self.fields():
             if field == "words":
                 parts.append(struct.pack("<QQ", GUARD_WORDS, value))
@@ -56,7 +63,7 @@ class Call(namedtuple("Call", "name args")):
         return self.args[-1] if SIGNATURES[self.name][1][-1] == "out" else None
 
     def __str__(self):
-        shown = []
+        shown, alignments = [], self.alignments()
         for field, value in self.fields():
             if field == "out":
                 shown.append(f"out {value[0]} bytes")
@@ -66,6 +73,8 @@ class Call(namedtuple("Call", "name args")):
                 shown.append(f"{field} {short_number(value)}" + (" zeros" if field in LENT else ""))
             else:
                 shown.append(f"{field} {short_bytes(value)}")
+            if alignments.get(field):
+                shown[-1] += f" at {alignments[field]} mod {ALIGNED}"
         return f"dw_{self.name}({', '.join(shown)})"
 
 
@@ -83,22 +92,24 @@ class Write(namedtuple("Write", "place values")):
 
 class Script:
     """A sequence of steps over memory that begins as `start`: guard words, the run, guard words. Each step is taken by the model as it is
-    added, which gives the answer that is expected of the driver."""
+    added, which gives the answer that is expected of the driver. Where bytes lie is drawn from `rng`."""
 
-    def __init__(self, kind, start, coverage=None):
-        self.kind, self.start, self.memory, self.coverage = kind, start, list(start), coverage
+    def __init__(self, kind, start, coverage=None, rng=None):
+        self.kind, self.start, self.memory, self.coverage, self.rng = kind, start, list(start), coverage, rng
         self.words = len(start) - 2 * GUARD_WORDS
         self.model = MODELS[kind](start[GUARD_WORDS:-GUARD_WORDS])
         self.steps, self.replies = [], []
 
-    def call(self, name, *args):
+    def call(self, name, *args, shifts=None):
         if SIGNATURES[name][1][0] == "words" and args[0] > self.words:
             raise Untold("more words than there are")
         answer = getattr(self.model, name)(*args)
-        self.steps.append(Call(name, args))
-        self.replies.append(self.reply(self.steps[-1], answer))
+        call = Call(name, args, self.rng.randrange(ALIGNED**3) if shifts is None else shifts)
+        self.steps.append(call)
+        self.replies.append(self.reply(call, answer))
         if self.coverage:
             self.coverage.call(name, args, answer, self.model)
+            self.coverage.places(call.alignments())
         return answer
 
     def write(self, place, values):
@@ -146,7 +157,7 @@ def replay(kind, start, steps):
     script = Script(kind, start)
     try:
         for step in steps:
-            script.call(step.name, *step.args) if isinstance(step, Call) else script.write(step.place, step.values)
+            script.call(step.name, *step.args, shifts=step.shifts) if isinstance(step, Call) else script.write(step.place, step.values)
     except Untold:
         return None
     return script

@@ -113,16 +113,17 @@ class Shrinker:
     def change(self, step, field, value):
         """The call with another argument."""
         fields = SIGNATURES[step.name][1]
-        return Call(step.name, tuple(value if name == field else arg for name, arg in zip(fields, step.args)))
+        return step._replace(args=tuple(value if name == field else arg for name, arg in zip(fields, step.args)))
 
     def simplify(self, at):
         """The first simpler form of a step that will do."""
         step = self.best.steps[at]
-        for field, value in step.fields() if isinstance(step, Call) else ():
-            for simple in simpler(field, value):
-                if self.attempt(self.best.start, self.best.steps[:at] + [self.change(step, field, simple)] + self.best.steps[at + 1 :]):
-                    return True
-        return False
+        if not isinstance(step, Call):
+            return False
+        forms = [self.change(step, field, simple) for field, value in step.fields() for simple in simpler(field, value)]
+        if step.shifts:
+            forms.insert(0, step._replace(shifts=0))
+        return any(self.attempt(self.best.start, self.best.steps[:at] + [form] + self.best.steps[at + 1 :]) for form in forms)
 
     def everywhere(self, field, old, new, start):
         """Another value in all calls that have this one."""

@@ -19,6 +19,7 @@ NUMBERS = {
     "judge": (12, 13, 14),
     "lookup": (12, 13),
 }
+BYTES = ("piece", "record", "message", "map", "list", "name", "digest", "out")
 # pairs that never hold together, or of which the second speaks of what the first says is not there
 APART = {(1, 6), (1, 4), (1, 3), (2, 6), (2, 4), (2, 3), (6, 4), (12, 13), (12, 14), (13, 14)}
 BAY_RULES = ("all zeros when empty", "edition", "count", "chaining words below 2^w", "zeros after the tail", "starting words")
@@ -68,6 +69,7 @@ class Coverage:
             "outputs about their limit": list(rooms()),
             "rules of a bay broken alone": BAY_RULES,
             "rules of a record broken alone": RECORD_RULES,
+            "alignments": [(field, at) for field in BYTES for at in range(16)],
             "words damaged": [("header", i) for i in range(HEADER)] + [("bay", i) for i in range(BAY)],
         }
         self.seen = {kind: Counter() for kind in self.wanted}
@@ -92,6 +94,10 @@ class Coverage:
     def room(self, name, args, answer, model):
         need = len(answer.wrote) or needed(name, args, model)
         self.seen["outputs about their limit"][name, "record" if name == "save" else need, args[-1][0] - need] += 1
+
+    def places(self, alignments):
+        """Counts how far past a multiple of 16 each field of bytes was lent."""
+        self.seen["alignments"].update(alignments.items())
 
     def damage(self, place):
         where = ("header", place) if place < HEADER else ("bay", (place - HEADER) % BAY)

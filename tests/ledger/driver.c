@@ -2,9 +2,10 @@
  *
  * A number is 8 bytes, the least significant first. Input is batches: a count of bytes, then so many bytes of commands. All of a batch is
  * read before its first command is done, and after its last one the answers are written, their count of bytes first; so neither side ever
- * waits for the other to read. A command is a byte that says which, and then what it needs:
+ * waits for the other to read. A command is a byte that says which, from 10 on a number of shifts, and then what it needs:
  *
- *    0 memory    a count W, then W words: the memory that runs are lent from; no answer
+ *    0 memory    a count W, then W words: the memory that runs are lent from, which begins at a multiple of 16 where W is even, and 8
+ *                past one where it is odd; no answer
  *    1 word      a place below W, and a value: the word there is set; no answer
  *    2 tell      answers all W words
  *   10 lay out   run, bays                               16 ask       run, bay
@@ -16,7 +17,8 @@
  *
  * A run is the place of its first word and its count of words. Lent is a count n and n bytes; but more than FAR bytes do not follow: the
  * call is lent n zeros then. Output is a count of at most OUTPUT bytes and a number f: counted from the beginning of the guard before it,
- * byte i of the output and its guards is (f + i) mod 256 before the call.
+ * byte i of the output and its guards is (f + i) mod 256 before the call. Lent bytes and outputs lie anywhere: the first of a call s mod 16
+ * bytes past a multiple of 16, where s is the number of shifts, the second s / 16 mod 16, and so on.
  *
  * The answer to a call is its number; for ask and lookup their two values; for a call with an output the GUARD bytes before it, the output
  * and the GUARD bytes after it; the count of bytes lent to be read, with the guards about them, that are not as they were; and the count of
@@ -32,24 +34,29 @@ void *memcpy(void *to, const void *from, size_t n);
 void *mmap(void *at, size_t n, int access, int kind, int file, long offset);
 _Noreturn void _exit(int status);
 
-enum { WORDS = 4096, GUARD = 64, OUTPUT = 1024, FAR = 2 << 20, BATCH = 32 << 20, ANSWERS = 32 << 20, LENT = 3 };
+enum { WORDS = 4096, GUARD = 64, OUTPUT = 1024, FAR = 2 << 20, BATCH = 32 << 20, ANSWERS = 32 << 20, LENT = 3, ALIGNED = 16 };
 
 static uint8_t batch[BATCH], answers[ANSWERS];
 static const uint8_t *next, *end; /* what of the batch is still to be done */
 static size_t answered;           /* bytes */
 
-static uint64_t memory[WORDS], before[WORDS]; /* what runs are lent from, and what it was before the call */
+static _Alignas(ALIGNED) uint64_t room[1 + WORDS];
+static uint64_t *memory = room, before[WORDS]; /* what runs are lent from, and what it was before the call */
 static size_t words;
 
-/* what is lent to be read: in its place between two guards, and where in the batch it came from */
+static uint64_t shifts; /* of what is still to be lent to the call */
+
+/* what is lent to be read: room for it, its place there between two guards, and where in the batch it came from */
 static struct {
-  uint8_t place[GUARD + FAR + GUARD];
+  _Alignas(ALIGNED) uint8_t room[ALIGNED + GUARD + FAR + GUARD];
+  uint8_t *place;
   const uint8_t *from;
   size_t n;
 } lent[LENT];
 static int lents;
 
-static uint8_t output[GUARD + OUTPUT + GUARD];
+static _Alignas(ALIGNED) uint8_t output_room[ALIGNED + GUARD + OUTPUT + GUARD];
+static uint8_t *output; /* with its guards */
 static size_t output_n;
 static int has_output;
 
@@ -86,6 +93,12 @@ static void answer(const void *from, size_t n) {
 
 static void answer_number(uint64_t value) { answer(&value, 8); }
 
+static size_t shift(void) {
+  size_t by = shifts % ALIGNED;
+  shifts /= ALIGNED;
+  return by;
+}
+
 /* More zeros than there is memory for. They take up none unless a call reads them, and cannot be written. */
 static const uint8_t *zeros(size_t n) {
   enum { READ = 1, PRIVATE = 2, ANONYMOUS = 32, NORESERVE = 0x4000 };
@@ -104,8 +117,9 @@ static uint8_t guard(size_t i) { return (uint8_t)(0xa7 + 29 * i); }
 
 static const uint8_t *lend(size_t *n) {
   *n = number();
-  if (*n > FAR) return zeros(*n);
-  uint8_t *place = lent[lents].place;
+  size_t by = shift();
+  if (*n > FAR) return zeros(by + *n) + by;
+  uint8_t *place = lent[lents].place = lent[lents].room + by;
   for (size_t i = 0; i < GUARD; i++) {
     place[i] = guard(i);
     place[GUARD + *n + i] = guard(GUARD + i);
@@ -132,6 +146,7 @@ static uint8_t *lend_output(size_t *n) {
   *n = output_n = number();
   uint64_t first = number();
   if (output_n > OUTPUT) give_up("the output is too long");
+  output = output_room + shift();
   for (size_t i = 0; i < GUARD + output_n + GUARD; i++) output[i] = (uint8_t)(first + i);
   has_output = 1;
   return output + GUARD;
@@ -217,6 +232,7 @@ static void answer_words_changed(void) {
 
 static void call(uint8_t which) {
   lents = has_output = 0;
+  shifts = number();
   told_edition = told_count = told_at = told_length = 0x5a5a5a5a5a5a5a5a;
   answer_number(which < 20 ? call_on_table(which) : call_at_once(which));
   if (which == 16) {
@@ -235,6 +251,7 @@ static void call(uint8_t which) {
 static void set_memory(void) {
   words = number();
   if (words > WORDS) give_up("the memory is too long");
+  memory = room + words % 2;
   memcpy(memory, take(8 * words), 8 * words);
   memcpy(before, memory, 8 * words);
 }

@@ -6,7 +6,7 @@ import rules
 from calls import GUARD_WORDS, Script
 from inputs import LONGEST, OTHER_BAYS, OTHER_COUNTS_OF_BAYS, OTHER_EDITIONS, TOP
 from ledger import UNSOUND, Entry
-from rules import BAY, EDITIONS, HEADER
+from rules import BAY, EDITIONS, HEADER, Wrong
 
 
 class Maker:
@@ -259,7 +259,7 @@ def finish(maker, length):
 def ledger_sequence(rng, length, coverage):
     """Over memory that held anything, with calls before the first layout."""
     bays, words = some_run(rng)
-    maker = Maker(rng, Script("ledger", some_memory(rng, words), coverage))
+    maker = Maker(rng, Script("ledger", some_memory(rng, words), coverage, rng))
     for _ in range(rng.choice((0, 0, 1, 3, 8))):
         maker.on_bay()
     maker.lay_out(bays)
@@ -272,33 +272,48 @@ def words_sequence(rng, length, coverage):
     memory = some_memory(rng, words)
     if rng.randrange(2):
         memory[GUARD_WORDS : GUARD_WORDS + min(4, words)] = [bays, HEADER, BAY, 0][:words]
-    maker = Damager(rng, Script("words", memory, coverage))
+    maker = Damager(rng, Script("words", memory, coverage, rng))
     if rng.randrange(4):
         maker.lay_out(bays)
     return finish(maker, length)
 
 
 def samples(rng, coverage):
-    """Document 01, "Samples", as far as they are calls; and the longest map, and one byte less and more."""
-    words = 1668
-    script = Script("ledger", some_memory(rng, words), coverage)
-    for lent, bays in ((29, 1), (30, 1), (words - 1, 64), (words, 64)):
-        script.call("lay_out", lent, bays)
+    """Document 01, "Samples", as far as they are calls, with 01's own numbers, to which the model is held too; and the longest map, and one
+    byte less and more."""
+    script = Script("ledger", some_memory(rng, 1668), coverage, rng)
+
+    def expect(told, name, *args):
+        answer = script.call(name, *args)
+        if answer.number != told:
+            raise Wrong(f"{script.steps[-1]} is {told} in the samples, and {answer.number} by the model")
+        return answer
+
+    # "L=30 with N=1 lays out; L=29 is 11. N=64 needs 1,668 words."
+    expect(11, "lay_out", 29, 1)
+    expect(0, "lay_out", 30, 1)
+    expect(11, "lay_out", 1667, 64)
+    expect(0, "lay_out", 1668, 64)
+    # "A loaded bay with c=2^40 takes no bytes but closes with 7 bits; one byte more is 7."
     for number, edition in EDITIONS.items():
         chain = [rng.getrandbits(edition.width.bits) for _ in range(8)]
-        script.call("load", words, number, rules.record(number, LONGEST, chain, b""))
-        script.call("add", words, number, b"")
-        script.call("add", words, number, b"a")
-        script.call("ask", words, number)
-        script.call("close", words, number, 0xAA, 7, (edition.digest, 0))
-    script.call("open", words, 0, 2)
-    script.call("add", words, 0, b"abc")
-    script.call("save", words, 0, (59, 0))
-    script.call("close", words, 0, 0x68, 4, (32, 0))
-    script.call("close", words, 0, 0, 0, (31, 0))
-    script.call("close", words, 0, 0x68, 4, (31, 0))
-    script.call("close", words, 0, 0x68, 5, (32, 0))
-    script.call("lookup", rules.list_of(2, []), b"yard.map")
-    for more in (-1, 0, 1):
-        script.call("tree", rng.randbytes(rules.MAP_LIMIT + more), (32, 0))
+        expect(0, "load", 1668, number, rules.record(number, 2**40, chain, b""))
+        expect(0, "add", 1668, number, b"")
+        expect(7, "add", 1668, number, b"a")
+        expect(0, "ask", 1668, number)
+        expect(0, "close", 1668, number, 0xAA, 7, (edition.digest, 0))
+    # "Closing byte 68 with b=4 is 8; output of 31 bytes for edition 2 is 9; both at once is 8."
+    expect(0, "open", 1668, 0, 2)
+    expect(0, "add", 1668, 0, b"abc")
+    record = expect(0, "save", 1668, 0, (59, 0)).wrote
+    expect(8, "close", 1668, 0, 0x68, 4, (32, 0))
+    expect(9, "close", 1668, 0, 0, 0, (31, 0))
+    expect(8, "close", 1668, 0, 0x68, 4, (31, 0))
+    expect(0, "close", 1668, 0, 0x68, 5, (32, 0))
+    # "record of edition 2 after `abc`", but for its starting words; "empty list, edition 2"
+    if record[:24].hex() != "0002000800180038" + "00" * 7 + "03" + "0003003b00000000" or record[56:] != b"abc":
+        raise Wrong("the record after abc is not the one of the samples")
+    expect(13, "lookup", bytes.fromhex("00020000" + 3 * "00000010"), b"yard.map")
+    for more, told in ((-1, 0), (0, 0), (1, 7)):
+        expect(told, "tree", rng.randbytes(1_048_576 + more), (32, 0))
     return script

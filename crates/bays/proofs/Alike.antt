@@ -20,7 +20,8 @@ use Rattle.halfread.proofs.Soundness.{facts-sound}
 use Rattle.bays.specs.Table.{roomFor, laidOut, putBay}
 use Rattle.bays.specs.Bay.{bayOf, emptyBay}
 use Rattle.bays.specs.Calls.{Call}
-use Rattle.bays.specs.Ledger.{Entry, Fine, FineSlot, Slot, nothing, entry, openedEntry, loadedEntry, with, taken, stateOf, slotRecord, Ready, SameRecords}
+use Rattle.bays.specs.Ledger.{Entry, Fine, FineSlot, Slot, nothing, entry, openedEntry, loadedEntry, with, taken, stateOf, slotRecord}
+use Rattle.bays.specs.Ledger.{Ready, SameRecords}
 use Rattle.bays.specs.Promise.{AllPassed, seenOf, saidOf}
 use Rattle.bays.proofs.Entries.{state-facts, state-shaped, opened-fine, with-fine, loaded-state, loaded-fine}
 use Rattle.bays.proofs.Follows.{Follows, slotBay, put-follows, laid-follows}

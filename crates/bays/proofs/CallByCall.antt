@@ -23,11 +23,16 @@ use Rattle.halfread.specs.Record.{recordOf, recordLength, isRecord}
 use Rattle.halfread.proofs.Records.{length-recordOf}
 use Rattle.bays.specs.Table.{roomFor, bayAt, putBay, laidOut}
 use Rattle.bays.specs.Bay.{halfOf, bayOf, isEmpty, soundBay}
-use Rattle.bays.specs.Calls.{Call, layOut, opening, adding, closing, saving, loading, asking, dropping, halfAt, tests, leaves, toldEdition, toldCount}
-use Rattle.bays.specs.Ledger.{Entry, Fine, FineSlot, Slot, nothing, entry, openedEntry, loadedEntry, with, taken, stateOf, isEntry, slotEdition, slotLength, slotRecord, slotDigest, slotWith, ledgerTests, kept, written, saidEdition, saidCount}
+use Rattle.bays.specs.Calls.{Call, layOut, opening, adding, closing, saving, loading, asking, dropping, halfAt, tests, leaves}
+use Rattle.bays.specs.Calls.{toldEdition, toldCount}
+use Rattle.bays.specs.Ledger.{Entry, Fine, FineSlot, Slot, nothing, entry, openedEntry, loadedEntry, with, taken, stateOf, isEntry}
+use Rattle.bays.specs.Ledger.{slotEdition, slotLength, slotRecord, slotDigest, slotWith, ledgerTests, kept, written, saidEdition}
+use Rattle.bays.specs.Ledger.{saidCount}
 use Rattle.bays.specs.Promise.{Passed}
-use Rattle.bays.proofs.Entries.{state-shaped, added-entry, digest-entry, with-fine, opened-state, opened-fine, loaded-state, loaded-fine}
-use Rattle.bays.proofs.Follows.{Follows, at, shown, gated, passed-gate, put-follows, laid-follows, half-slot, state-count, not-not, slotBay}
+use Rattle.bays.proofs.Entries.{state-shaped, added-entry, digest-entry, with-fine, opened-state, opened-fine, loaded-state}
+use Rattle.bays.proofs.Entries.{loaded-fine}
+use Rattle.bays.proofs.Follows.{Follows, at, shown, gated, passed-gate, put-follows, laid-follows, half-slot, state-count, not-not}
+use Rattle.bays.proofs.Follows.{slotBay}
 
 -- what a call that is done leaves is the same in both, and the table still follows
 pub record Done (L : ℕ) (t : List ℕ) (l : List Slot) (c : Call) : Type 0 where
@@ -55,7 +60,9 @@ module _ {L : ℕ} {t : List ℕ} {l : List Slot} (f : Follows L t l) where
             output = refl;
             edition = refl;
             count = refl;
-            follows = subst (λ (k : ℕ). Follows k (laidOut n t) (replicate n nothing)) (f .long) (laid-follows n t (fits (roomFor n (length t)) e));
+            follows =
+                subst (λ (k : ℕ). Follows k (laidOut n t) (replicate n nothing)) (f .long)
+                (laid-follows n t (fits (roomFor n (length t)) e));
           }
 
   -- a bay that is taken holds an entry
@@ -92,12 +99,14 @@ module _ {L : ℕ} {t : List ℕ} {l : List Slot} (f : Follows L t l) where
       let s = shown f i h in
       rw (s .isSound, s .empty, not-not (isEntry (at f i)))
 
-  filled : (i : ℕ) (en : Entry) (h : HalfRead) → stateOf en ≡ h → i < length l → Fine en → Follows L (putBay t i (bayOf h)) (set l i (entry en))
+  filled : (i : ℕ) (en : Entry) (h : HalfRead) → stateOf en ≡ h → i < length l → Fine en →
+      Follows L (putBay t i (bayOf h)) (set l i (entry en))
   filled i en h e b fine = moved i (sym e) refl (put-follows f i b (entry en) fine)
 
   opening-step : (i e : ℕ) → Step L t l (opening i e)
   unfolding tests ledgerTests leaves written kept first
-  opening-step i e = record { answer = gated f i us (slotTests 5 (known e) i) (fill-same 5 (known e) i); done = λ z. made (passed-gate f i us z) }
+  opening-step i e =
+      record { answer = gated f i us (slotTests 5 (known e) i) (fill-same 5 (known e) i); done = λ z. made (passed-gate f i us z) }
     where
       us : List Test
       us = fillTests 5 (known e) i
@@ -105,7 +114,12 @@ module _ {L : ℕ} {t : List ℕ} {l : List Slot} (f : Follows L t l) where
       made : (i < length l) × (first us ≡ 0) → Done L t l (opening i e)
       made r =
           let k = not-false (known e) (passed us tt (r .1) 0) in
-          record { output = refl; edition = refl; count = refl; follows = filled i (openedEntry e) _ (opened-state e) (r .0) (opened-fine e k) }
+          record {
+            output = refl;
+            edition = refl;
+            count = refl;
+            follows = filled i (openedEntry e) _ (opened-state e) (r .0) (opened-fine e k);
+          }
 
   adding-step : (i : ℕ) (piece : List ℕ) → Bytes piece → Step L t l (adding i piece)
   unfolding tests ledgerTests leaves written kept first
@@ -210,7 +224,11 @@ module _ {L : ℕ} {t : List ℕ} {l : List Slot} (f : Follows L t l) where
 
   loading-step : (i : ℕ) (bytes : List ℕ) → Bytes bytes → Step L t l (loading i bytes)
   unfolding tests ledgerTests leaves written kept first
-  loading-step i bytes all = record { answer = gated f i us (slotTests 10 (isRecord bytes) i) (fill-same 10 (isRecord bytes) i); done = λ z. made (passed-gate f i us z) }
+  loading-step i bytes all =
+      record {
+        answer = gated f i us (slotTests 10 (isRecord bytes) i) (fill-same 10 (isRecord bytes) i);
+        done = λ z. made (passed-gate f i us z);
+      }
     where
       us : List Test
       us = fillTests 10 (isRecord bytes) i

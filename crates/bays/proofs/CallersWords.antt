@@ -23,7 +23,8 @@ use Rattle.halfread.specs.Steps.{opened, added, waiting}
 use Rattle.halfread.specs.Record.{loaded}
 use Rattle.bays.specs.Table.{placeOf, bayWords, baysOf, headed, bayAt, putBay, laidOut}
 use Rattle.bays.specs.Bay.{halfOf, bayOf, emptyBay}
-use Rattle.bays.specs.Calls.{Call, layOut, opening, adding, closing, saving, loading, asking, dropping, outputOf, halfAt, gateTests, tests, leaves, Ran, run}
+use Rattle.bays.specs.Calls.{Call, layOut, opening, adding, closing, saving, loading, asking, dropping, outputOf, halfAt, gateTests}
+use Rattle.bays.specs.Calls.{tests, leaves, Ran, run}
 use Rattle.bays.specs.Ledger.{Slot, nothing, Kept, keep, kept, ledgerTests}
 use Rattle.bays.specs.Promise.{Passed, AllPassed, tableOf, reach, LaidWithin}
 use Rattle.bays.proofs.Frames.{bay-inside, length-bayAt, drop-putBay}

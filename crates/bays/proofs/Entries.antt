@@ -4,7 +4,8 @@ use Prim.Native.Nat.{ℕ, zero, suc, _+_, _-_, _*_, _/_, _%_, _^_, _≤_, _<_}
 use mathlib.Core.Bool.{Bool, true, false}
 use mathlib.Core.List.{List, [], _∷_, _++_, append-assoc}
 use mathlib.Core.Path.{_≡_, refl, sym, ap, ap₂, subst, _∙_}
-use native.Mathlib.Nat.{lt-of-lt-of-le, mod-lt, mod-le, div-add-mod', mul-add-mod-self-right, mod-eq-of-lt, div-eq-of-lt, mul-add-div-right, add-mul, zero-mul, suc-mul, add-assoc}
+use native.Mathlib.Nat.{lt-of-lt-of-le, mod-lt, mod-le, div-add-mod', mul-add-mod-self-right, mod-eq-of-lt, div-eq-of-lt, mul-add-div-right}
+use native.Mathlib.Nat.{add-mul, zero-mul, suc-mul, add-assoc}
 use native.Mathlib.Omega.{arith}
 use lib.ListN.{length, take, drop, replicate, length-append, length-take, length-drop, take-append-drop}
 use lib.Pow.{pow-mono}

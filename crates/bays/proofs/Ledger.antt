@@ -16,7 +16,8 @@ use Rattle.fips.specs.ByteForm.{message, ending, parseBytes, hashBytes, digestO
 use Rattle.fips.proofs.ByteForm.{digest-bytes}
 use Rattle.sha2.specs.Hashing.{digestFrom}
 use Rattle.bays.specs.Table.{laidOut, roomFor}
-use Rattle.bays.specs.Calls.{Call, layOut, opening, adding, closing, saving, loading, asking, dropping, outputOf, tests, leaves, Seen, Ran, run}
+use Rattle.bays.specs.Calls.{Call, layOut, opening, adding, closing, saving, loading, asking, dropping, outputOf, tests, leaves, Seen}
+use Rattle.bays.specs.Calls.{Ran, run}
 use Rattle.bays.specs.Ledger.{Slot, nothing, openedEntry, with, digestOf, ledgerTests, kept, Kept, keep}
 use Rattle.bays.specs.Promise.{Passed, AllPassed, seenOf, saidOf, Promise, Undamaged}
 use Rattle.bays.proofs.Follows.{Follows, laid-follows}

@@ -4,7 +4,8 @@ use Prim.Native.Nat.{ℕ, zero, suc, _+_, _-_, _*_, _/_, _%_, _^_, _≤_, _<_}
 use mathlib.Core.Bool.{Bool, true, false}
 use mathlib.Core.List.{List, [], _∷_, _++_, map, append-assoc, append-nil}
 use mathlib.Core.Path.{_≡_, refl, sym, ap, ap₂, _∙_}
-use native.Mathlib.Nat.{mod-one, mod-lt, zero-add, suc-add, add-comm, add-assoc, mul-suc, mul-zero, pow-suc, pow-succ', pow-zero, mul-one, mod-eq-of-lt, lt-suc-self, mod-mod, mod-self, div-self, zero-div, zero-mod, add-mul, mul-assoc, zero-mul}
+use native.Mathlib.Nat.{mod-one, mod-lt, zero-add, suc-add, add-comm, add-assoc, mul-suc, mul-zero, pow-suc, pow-succ', pow-zero, mul-one}
+use native.Mathlib.Nat.{mod-eq-of-lt, lt-suc-self, mod-mod, mod-self, div-self, zero-div, zero-mod, add-mul, mul-assoc, zero-mul}
 use native.Mathlib.Numerals.{one-add}
 use native.Mathlib.Omega.{arith}
 use lib.Arith.{digits-lt}

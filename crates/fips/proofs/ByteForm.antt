@@ -18,7 +18,8 @@ use Rattle.fips.specs.Padding.{zeros, pad, parse}
 use Rattle.fips.specs.Constants.{chain, hashFrom}
 use Rattle.fips.specs.Editions.{width, digestBytes, start, digest}
 use Rattle.fips.specs.ByteForm.{message, closed, blockBytes, ending, parseBytes, hashBytes, digestOfBytes}
-use Rattle.fips.proofs.Bits.{length-bits, length-bitsOf, bitsOf-append, bitsOf-zeros, bitsOf-be, bits-closed, take-bitsOf, drop-bitsOf, words-bitsOf}
+use Rattle.fips.proofs.Bits.{length-bits, length-bitsOf, bitsOf-append, bitsOf-zeros, bitsOf-be, bits-closed, take-bitsOf}
+use Rattle.fips.proofs.Bits.{drop-bitsOf, words-bitsOf}
 use Rattle.fips.proofs.Editions.{width-some}
 use Rattle.fips.proofs.Padding.{zeros-lt, zeros-reach, zeros-of}
 

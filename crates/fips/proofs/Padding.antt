@@ -2,7 +2,8 @@
 -- `zeros-of`: whatever count reaches 14 words modulo 16 is that count modulo 16 words.
 use Prim.Native.Nat.{ℕ, suc, _+_, _-_, _*_, _/_, _%_, _≤_, _<_}
 use mathlib.Core.Path.{_≡_, refl, sym, ap, ap₂, _∙_}
-use native.Mathlib.Nat.{mod-lt, mod-le, mod-add-mod, add-mod-mod, add-mod-right, mod-eq-of-lt, le-trans, le-of-eq, mod-self, add-assoc, mul-add-mod-self-right}
+use native.Mathlib.Nat.{mod-lt, mod-le, mod-add-mod, add-mod-mod, add-mod-right, mod-eq-of-lt, le-trans, le-of-eq, mod-self, add-assoc}
+use native.Mathlib.Nat.{mul-add-mod-self-right}
 use native.Mathlib.Omega.{arith}
 use lib.ListN.{length, replicate, length-append, length-replicate}
 use mathlib.Core.Bool.{Bool, true, false}

@@ -6,7 +6,8 @@ use mathlib.Core.Path.{_≡_, refl, sym, ap, ap₂, _∙_}
 use native.Mathlib.Omega.{arith}
 use lib.Dec.{leb, leb→le, nleb→lt}
 use lib.ListN.{length, take, drop, length-append, length-take, length-drop, drop-of-length-le}
-use lib.Seq.{take-all, take-length, drop-length, take-append-seam, drop-append-seam, take-append-le, take-append-add, drop-append-add, drop-drop}
+use lib.Seq.{take-all, take-length, drop-length, take-append-seam, drop-append-seam, take-append-le, take-append-add, drop-append-add}
+use lib.Seq.{drop-drop}
 use Rattle.bigendian.proofs.Parts.{take-within, drop-within}
 use Rattle.sha2.specs.AtFront.{atFront}
 use Rattle.sha2.proofs.AtFront.{length-atFront, atFront-room}

@@ -74,7 +74,9 @@ module _ (L e : ℕ) (listed : List ℕ) where
       let ledger = closes L (with (openedEntry e) m) out (digest-short e) in
       let done : run t (closing 0 0 0 out) .seen .answer ≡ 0 = ap (λ (s : Seen). s .answer) seen ∙ ledger .0 in
       let put : run t (closing 0 0 0 out) .seen .output ≡ atFront (digest e (message m 0 0)) out =
-      ap (λ (s : Seen). s .output) seen ∙ ledger .1 ∙ ap (λ (d : List ℕ). atFront d out) (opened-digest e m 0 0 b (omega arith) (omega arith)) in
+      ap (λ (s : Seen). s .output) seen
+      ∙ ledger .1
+      ∙ ap (λ (d : List ℕ). atFront d out) (opened-digest e m 0 0 b (omega arith) (omega arith)) in
       rw (
         done,
         put,
@@ -100,10 +102,12 @@ module _ (L e : ℕ) (listed : List ℕ) where
   unfolding said joined endsAs
   from-here [] t m f b h g = at-end t m f b h ∙ ap (λ (l : List ℕ). verdict e listed (bytes l)) (sym (append-nil m))
   from-here (p ∷ ps) t m f b h g =
-      go (ltb limit (length m + length p)) refl (λ held short. from-here ps (afterPiece t p) (m ++ p) held (below-append m p b (g .0)) short (g .1))
+      go (ltb limit (length m + length p)) refl
+      (λ held short. from-here ps (afterPiece t p) (m ++ p) held (below-append m p b (g .0)) short (g .1))
     where
       go : (k : Bool) → ltb limit (length m + length p) ≡ k →
-          (Holds (afterPiece t p) (m ++ p) → length (m ++ p) ≤ limit → said (afterPiece t p) e listed ps ≡ verdict e listed (bytes (m ++ p ++ joined ps))) →
+          (Holds (afterPiece t p) (m ++ p) → length (m ++ p) ≤ limit →
+          said (afterPiece t p) e listed ps ≡ verdict e listed (bytes (m ++ p ++ joined ps))) →
           cond (fits t p) (said (afterPiece t p) e listed ps) Verdict.Bad ≡ verdict e listed (bytes (m ++ (p ++ joined ps)))
       go true q rest =
           let long = ltb-true limit (length m + length p) q in
@@ -120,12 +124,14 @@ module _ (L e : ℕ) (listed : List ℕ) where
 pub file-verdict : (words : List ℕ) (e : ℕ) (listed : List ℕ) (ps : List (List ℕ)) → roomFor 1 (length words) ≡ true → known e ≡ true →
     AllBytes ps → said (begun words e) e listed ps ≡ verdict e listed (bytes (joined ps))
 unfolding begun run tests first
-file-verdict words e listed ps r k g = from-here (length words) e listed ps (begun words e) [] begins (below-nil 256 (omega arith)) (omega arith) g
+file-verdict words e listed ps r k g =
+    from-here (length words) e listed ps (begun words e) [] begins (below-nil 256 (omega arith)) (omega arith) g
   where
     room : run words (layOut 1) .seen .answer ≡ 0
     room = rw r
 
     begins : Follows (length words) (begun words e) (entry (openedEntry e) ∷ [])
     begins =
-        subst (λ (l : List Slot). Follows (length words) (run (run words (layOut 1) .table) (opening 0 e) .table) l) (opens (length words) e k)
+        subst (λ (l : List Slot). Follows (length words) (run (run words (layOut 1) .table) (opening 0 e) .table) l)
+        (opens (length words) e k)
         (still-follows (laid words 1 room) (opening 0 e) tt)

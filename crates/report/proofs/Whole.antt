@@ -24,7 +24,8 @@ use Rattle.report.specs.declared.Verdict.{Verdict}
 use Rattle.report.specs.Files.{joined}
 use Rattle.report.specs.Lines.{more, counted, lineOf, countLine, notAList}
 use Rattle.report.specs.Program.{File, unread, pieces, Met, came, listOf, saidOf, none, writes, program}
-use Rattle.report.specs.Report.{Came, nothing, bytes, verdict, verdicts, lines, isOk, isBad, isMissing, sum, tallyOf, report, byList, output}
+use Rattle.report.specs.Report.{Came, nothing, bytes, verdict, verdicts, lines, isOk, isBad, isMissing, sum, tallyOf, report, byList}
+use Rattle.report.specs.Report.{output}
 use Rattle.report.proofs.Verdicts.{file-verdict}
 
 -- ---- counting
@@ -60,7 +61,8 @@ count-one t v n r =
     elim v [
       | Verdict.Ok ↦ tally-eq listed (one-more (t .ok) (t .listed) (r .oks) (omega (arith, r .room))) (omega arith) (omega arith)
       | Verdict.Bad ↦ tally-eq listed (omega arith) (one-more (t .bad) (t .listed) (r .bads) (omega (arith, r .room))) (omega arith)
-      | Verdict.Missing ↦ tally-eq listed (omega arith) (omega arith) (one-more (t .missing) (t .listed) (r .missings) (omega (arith, r .room)))
+      | Verdict.Missing ↦
+          tally-eq listed (omega arith) (omega arith) (one-more (t .missing) (t .listed) (r .missings) (omega (arith, r .room)))
     ]
 
 pub at-most-one : (v : Verdict) → (isOk v ≤ 1) × (isBad v ≤ 1) × (isMissing v ≤ 1)
@@ -81,6 +83,9 @@ room-one t v n r =
       bads = omega (arith, r .bads, few .1);
       missings = omega (arith, r .missings, few .2);
     }
+
+room-first : (n : ℕ) → n ≤ 256 → Room none n
+room-first n h = record { room = omega arith; oks = omega arith; bads = omega arith; missings = omega arith }
 
 plus-none : (t : Tally) → plus t [] ≡ t
 unfolding sum
@@ -123,16 +128,18 @@ module _ (files : List ℕ → File) (met : (name : List ℕ) → Met (files nam
         let later = from-entry n (i + 1) (plus t (v ∷ [])) (omega arith) (room-one t v n r) in
         let next = later ∙ ap (λ (u : Tally). lines folder e rest ++ countLine u) (plus-plus t v vs) in
         rw (pair-on i (omega arith), said-law i (files name) (met name), count-one t v n r)
-        (ap (λ (l : List ℕ). lineOf v name ++ l) next ∙ sym (append-assoc (lineOf v name) (lines folder e rest) (countLine (plus t (v ∷ vs)))))
+        (ap (λ (l : List ℕ). lineOf v name ++ l) next
+        ∙ sym (append-assoc (lineOf v name) (lines folder e rest) (countLine (plus t (v ∷ vs)))))
 
   listed : (bs : List ℕ) → accepted bs ≡ true → writes files bs 0 (countIn bs) none ≡ report folder (readList bs)
   unfolding report readList
   listed bs a =
       let v : ValidList (readList bs) = valid-list (readList bs) (accepted-valid bs a) in
       let count = length-readPairs (countIn bs) (digestSizeIn bs) (drop 16 bs) bs in
-      let room : Room none (countIn bs) = record { room = omega (arith, v .few, count); oks = omega arith; bads = omega arith; missings = omega arith } in
+      let room = room-first (countIn bs) (omega (arith, v .few, count)) in
       from-entry bs (editionIn bs) (v .edition-known) refl (countIn bs) 0 none (omega arith) room
-      ∙ ap (λ (u : Tally). lines folder (editionIn bs) (readList bs .pairs) ++ countLine u) (plus-all (verdicts folder (editionIn bs) (readList bs .pairs)))
+      ∙ ap (λ (u : Tally). lines folder (editionIn bs) (readList bs .pairs) ++ countLine u)
+      (plus-all (verdicts folder (editionIn bs) (readList bs .pairs)))
 
   -- bytes that are no list
   too-long : (bs : List ℕ) → 34832 < length bs → accepted bs ≡ false
@@ -153,7 +160,8 @@ module _ (files : List ℕ → File) (met : (name : List ℕ) → Met (files nam
       cond (accepted bs) (writes files bs 0 (countIn bs) none) notAList ≡ cond (accepted bs) (report folder (readList bs)) notAList
   either bs = go (accepted bs) refl
     where
-      go : (b : Bool) → accepted bs ≡ b → cond b (writes files bs 0 (countIn bs) none) notAList ≡ cond b (report folder (readList bs)) notAList
+      go : (b : Bool) → accepted bs ≡ b →
+          cond b (writes files bs 0 (countIn bs) none) notAList ≡ cond b (report folder (readList bs)) notAList
       go true e = listed bs e
       go false e = refl
 
@@ -162,8 +170,11 @@ module _ (files : List ℕ → File) (met : (name : List ℕ) → Met (files nam
   by-list unread = rw no-bytes
   by-list (pieces words ps) = go (leb (length (joined ps)) 34833) refl
     where
+      bs : List ℕ
+      bs = take 34833 (joined ps)
+
       go : (b : Bool) → leb (length (joined ps)) 34833 ≡ b →
-          cond (accepted (take 34833 (joined ps))) (writes files (take 34833 (joined ps)) 0 (countIn (take 34833 (joined ps))) none) notAList
+          cond (accepted bs) (writes files bs 0 (countIn bs) none) notAList
           ≡ cond (accepted (joined ps)) (report folder (readList (joined ps))) notAList
       go true e = rw (take-all 34833 (joined ps) (leb-true (length (joined ps)) 34833 e)) (either (joined ps))
       go false e =

@@ -47,7 +47,8 @@ leftBy Ending.Unread t = t
 -- what is said of a file that comes in pieces: a piece that is not taken ends it
 unfoldable pub said : List ℕ → ℕ → List ℕ → List (List ℕ) → Verdict
 said t edition listed [] = endsAs Ending.Whole t edition listed
-said t edition listed (p ∷ ps) = cond (fits t p) (said (afterPiece t p) edition listed ps) (endsAs Ending.TooLong (afterPiece t p) edition listed)
+said t edition listed (p ∷ ps) =
+    cond (fits t p) (said (afterPiece t p) edition listed ps) (endsAs Ending.TooLong (afterPiece t p) edition listed)
 
 -- the pieces of a file, and its bytes
 abbrev pub AllBytes : List (List ℕ) → Type 0

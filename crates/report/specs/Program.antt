@@ -1,5 +1,5 @@
--- The program step by step, as its code has it, over what it meets in a folder. That this is `output` is the theorem `program-output`; that the code
--- does these steps is read, since no contract of the C library says which bytes are read or written.
+-- The program step by step, as its code has it, over what it meets in a folder. That this is `output` is the theorem `program-output`; that
+-- the code does these steps is read, since no contract of the C library says which bytes are read or written.
 use Prim.Native.Nat.{ℕ, zero, suc, _+_}
 use mathlib.Core.Bool.{true, cond}
 use mathlib.Core.List.{List, [], _∷_, _++_}
@@ -15,7 +15,8 @@ use Rattle.report.specs.Lines.{lineOf, countLine, counted, notAList}
 use Rattle.report.specs.Report.{Came, nothing, bytes}
 use Rattle.report.specs.Files.{begun, said, AllBytes, joined}
 
--- a file as it is met: not opened, or not read to its end; or the pieces that reads bring, and the words that lie where its table is laid out
+-- a file as it is met: not opened, or not read to its end; or the pieces that reads bring, up to the first that is not taken, and the words
+-- that lie where its table is laid out
 pub data File : Type 0 where
   unread : File
   pieces : (words : List ℕ) (ps : List (List ℕ)) → File

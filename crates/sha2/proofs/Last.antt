@@ -6,7 +6,8 @@ use mathlib.Core.Path.{_≡_, refl, sym, ap, ap₂, _∙_}
 use native.Mathlib.Decide.{decLe}
 use native.Mathlib.Nat.{le-of-suc-le-suc, not-suc-le-zero, lt-of-not-le}
 use native.Mathlib.Omega.{arith}
-use lib.ListN.{length, take, drop, set, replicate, length-append, length-replicate, length-take, length-drop, drop-of-length-le, take-append-drop}
+use lib.ListN.{length, take, drop, set, replicate, length-append, length-replicate, length-take, length-drop, drop-of-length-le}
+use lib.ListN.{take-append-drop}
 use lib.Seq.{take-all, take-append-add, set-at, take-at, drop-at}
 use Rattle.bigendian.specs.BigEndian.{be}
 use Rattle.bigendian.proofs.BigEndian.{length-be}

@@ -34,7 +34,8 @@ abbrev Ends : tie.After-same → Verdict → Type 0
 Ends c v =
     let k = c .before .before .before .before .before .before .before .before .before .before in
     let a = k .before .before .before .before .before .args in
-    (v ≡ judged (a .table .now) (editionIn (a .list .now)) (pairIn (a .i) (a .list .now) .digest)) × (k .close .last .0 ≡ afterClose (a .table .now))
+    (v ≡ judged (a .table .now) (editionIn (a .list .now)) (pairIn (a .i) (a .list .now) .digest))
+    × (k .close .last .0 ≡ afterClose (a .table .now))
 
 decided : (c : tie.After-same) (b : Bool) → c .same .result ≡ b → Ends c (cond b Verdict.Ok Verdict.Bad)
 decided c b e =

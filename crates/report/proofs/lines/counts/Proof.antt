@@ -13,7 +13,8 @@ returns c =
     let bad = missing .before .before .before .before .before in
     let ok = bad .before .before .before .before .before in
     let listed = ok .before .before .before .before .before in
-    then _ _ _ _ (then _ _ _ _ (then _ _ _ _ (listed .count .ensures) (ok .count2 .ensures)) (bad .count3 .ensures)) (missing .count4 .ensures)
+    let two = then _ _ _ _ (listed .count .ensures) (ok .count2 .ensures) in
+    then _ _ _ _ (then _ _ _ _ two (bad .count3 .ensures)) (missing .count4 .ensures)
 
 pub counts-spec : {M : Type 1} → statement M
 counts-spec =
