@@ -32,8 +32,8 @@ fn dwombarine(edition: u64, message: &[u8], out: &mut [u8]) {
     assert_eq!(number, 0, "hash at once answered {number}");
 }
 
-/// The whole message through a bay, in pieces of 4,096 bytes.
-fn in_pieces(edition: u64, message: &[u8], table: &mut [u64; 30]) {
+/// The whole message through a bay, in pieces of that size.
+fn in_pieces(size: usize, edition: u64, message: &[u8], table: &mut [u64; 30]) {
     let numbers = unsafe {
         [
             dw_lay_out(table.as_mut_ptr(), table.len(), 1),
@@ -41,13 +41,13 @@ fn in_pieces(edition: u64, message: &[u8], table: &mut [u64; 30]) {
         ]
     };
     assert_eq!(numbers, [0, 0], "a bay is not opened");
-    for piece in message.chunks(4096) {
+    for piece in message.chunks(size) {
         let number = unsafe { dw_add(table.as_mut_ptr(), table.len(), 0, piece.as_ptr(), piece.len()) };
         assert_eq!(number, 0, "add answered {number}");
     }
 }
 
-/// The same pieces, each hashed at once by itself.
+/// Pieces of 4,096 bytes, each hashed at once by itself.
 fn each_at_once(edition: u64, message: &[u8], out: &mut [u8]) {
     for piece in message.chunks(4096) {
         dwombarine(edition, piece, out);
@@ -118,10 +118,16 @@ fn main() {
     report("SHA-256", us, rust, data.len(), race(turns, || dwombarine(2, &data, &mut out[..32]), || keep(&plain::sha256(&data))));
     report("SHA-512", us, rust, data.len(), race(turns, || dwombarine(4, &data, &mut out), || keep(&plain::sha512(&data))));
 
-    let (adds, once, pieces) = ("adds of 4,096 bytes", "the whole at once", "each piece at once");
+    let (once, pieces) = ("the whole at once", "each piece at once");
     let (mut table, mut other) = ([0u64; 30], [0u8; 64]);
-    report("SHA-256", adds, once, data.len(), race(turns, || in_pieces(2, &data, &mut table), || dwombarine(2, &data, &mut out[..32])));
-    report("SHA-512", adds, once, data.len(), race(turns, || in_pieces(4, &data, &mut table), || dwombarine(4, &data, &mut out)));
-    report("SHA-256", adds, pieces, data.len(), race(turns, || in_pieces(2, &data, &mut table), || each_at_once(2, &data, &mut other[..32])));
-    report("SHA-512", adds, pieces, data.len(), race(turns, || in_pieces(4, &data, &mut table), || each_at_once(4, &data, &mut other)));
+    // whole blocks, one byte less than them, and a length that begins and ends inside a block
+    for size in [4096, 4095, 1000, 100] {
+        let adds = format!("adds of {size} bytes");
+        let mut through = |edition| in_pieces(size, edition, &data, &mut table);
+        report("SHA-256", &adds, once, data.len(), race(turns, || through(2), || dwombarine(2, &data, &mut out[..32])));
+        report("SHA-512", &adds, once, data.len(), race(turns, || through(4), || dwombarine(4, &data, &mut out)));
+    }
+    let (adds, mut through) = ("adds of 4096 bytes", |edition| in_pieces(4096, edition, &data, &mut table));
+    report("SHA-256", adds, pieces, data.len(), race(turns, || through(2), || each_at_once(2, &data, &mut other[..32])));
+    report("SHA-512", adds, pieces, data.len(), race(turns, || through(4), || each_at_once(4, &data, &mut other)));
 }
