@@ -1,5 +1,5 @@
--- The program step by step, as its code has it, over what it meets in a folder. That this is `output` is the theorem `program-output`; that
--- the code does these steps is read, since no contract of the C library says which bytes are read or written.
+-- The program step by step, over what it meets in a folder. That this is `output` is the theorem `program-output`; that the program takes these
+-- steps is read, since no contract of the C library says which bytes are read or written.
 use Prim.Native.Nat.{ℕ, zero, suc, _+_}
 use mathlib.Core.Bool.{true, cond}
 use mathlib.Core.List.{List, [], _∷_, _++_}
