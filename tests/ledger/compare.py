@@ -1,84 +1,26 @@
-"""Random sequences of calls through the C interface, held answer for answer and byte for byte to the plain ledger of document 01 and, over
+"""Random sequences of calls through the C interface, held answer for answer and byte for byte to the plain ledger of SPEC and, over
 damaged tables, to its rules for the words. tests/ledger/run says how it is run."""
 import os
 import random
-import select
-import subprocess
 import sys
 import time
 import traceback
-from pathlib import Path
 
-from calls import GUARD_WORDS, SIGNATURES, Call, difference, replay
+from calls import difference, replay
 from coverage import Coverage
+from driver import GUARD_WORDS, SHORT_PATIENCE, SIGNATURES, Call, Driver
 from ledger import Entry
 from rules import BAY, HEADER, Wrong
 from sequences import ledger_sequence, samples, words_sequence
 
 DEFAULT_CALLS = 300_000
-ROOT = Path(__file__).resolve().parents[2]
 MOST_FAILURES = 3  # sequences that are shrunk and shown before the run ends
-PATIENCE, SHORT_PATIENCE, SHRINKING = 60, 5, 90  # seconds
-GAVE_UP = 3  # the driver's status when a command cannot be done
-
-
-class Driver:
-    """The compiled calls. Nothing is kept from one batch to the next, so that a batch can be sent again, and to a new process too."""
-
-    def __init__(self):
-        self.process, self.patience = None, PATIENCE
-
-    def start(self):
-        command = [ROOT / "tests/kit/x86-64", ROOT / "target/ledger/driver"]
-        self.process = subprocess.Popen(command, stdin=subprocess.PIPE, stdout=subprocess.PIPE, bufsize=0)
-
-    def end(self):
-        if self.process:
-            self.process.stdin.close()
-            self.process.stdout.close()
-            self.process.wait()
-            self.process = None
-
-    def send(self, data):
-        rest = memoryview(data)
-        while rest:
-            rest = rest[self.process.stdin.write(rest) :]
-
-    def read(self, count):
-        data, until = bytearray(), time.monotonic() + self.patience
-        while len(data) < count:
-            if not select.select([self.process.stdout], [], [], max(0, until - time.monotonic()))[0]:
-                raise TimeoutError
-            part = self.process.stdout.read(count - len(data))
-            if not part:
-                raise BrokenPipeError
-            data += part
-        return bytes(data)
-
-    def run(self, script):
-        """The answers to a script, and why there are none."""
-        if not self.process:
-            self.start()
-        batch = script.batch()
-        try:
-            self.send(len(batch).to_bytes(8, "little") + batch)
-            return self.read(int.from_bytes(self.read(8), "little")), None
-        except TimeoutError:
-            self.process.kill()
-            fault = f"no answer in {self.patience} seconds"
-            self.patience = SHORT_PATIENCE
-        except BrokenPipeError:
-            fault = f"the driver ended with status {self.process.wait()}"
-        gave_up = self.process.returncode == GAVE_UP
-        self.end()
-        if gave_up:
-            raise Wrong("the driver gave up")
-        return b"", fault
+SHRINKING = 90  # seconds
 
 
 def differs(driver, script):
     """The call that was answered otherwise than expected, counted from 0 (None if there are no answers), and in what; or None."""
-    got, fault = driver.run(script)
+    got, fault = driver.run(script.batch())
     if fault:
         return None, [fault]
     return None if got == script.expected() else difference(script, got)

@@ -1,4 +1,4 @@
-"""Counts what a run has seen, and says what of document 01 it has not."""
+"""Counts what a run has seen, and says what of SPEC it has not."""
 from collections import Counter
 
 import rules
@@ -114,7 +114,7 @@ class Coverage:
         return "seen: " + ", ".join(f"{seen} of {wanted} {kind}" for seen, wanted, kind in counts)
 
     def table(self):
-        """How often each call gave each number; a dot where 01 has none."""
+        """How often each call gave each number; a dot where SPEC has none."""
         yield "          " + "".join(f"{n:7}" for n in range(15))
         for name, numbers in NUMBERS.items():
             counts = (self.seen["numbers of calls"][name, n] if n == 0 or n in numbers else "." for n in range(15))

@@ -1,6 +1,6 @@
 """Random arguments of calls: pieces, closing bits, outputs, records and lists, whole and damaged, most of them about some limit."""
 import rules
-from calls import FAR
+from driver import FAR
 from ledger import Entry
 from rules import BAY, CHUNK, EDITIONS, LONGEST
 

@@ -1,7 +1,7 @@
-"""The plain ledger of document 01: what a bay holds is kept as the bytes it was given, and every answer is worked out from them.
+"""SPEC, "The plain ledger": what a bay holds is kept as the bytes it was given, and every answer is worked out from them.
 
 A call takes the arguments of its C function, a lent run as its count of words and an output as a pair that has its count of bytes first,
-and hands back an Answer: the number; the numbers after it in 01's order whose conditions hold too; the two values of ask and lookup; the
+and hands back an Answer: the number; the numbers after it in SPEC's order whose conditions hold too; the two values of ask and lookup; the
 bytes at the front of the output; and the words of the lent run that are set, as the place of the first and a list.
 """
 from collections import namedtuple
@@ -107,7 +107,7 @@ class Entry:
 
 
 class Calls:
-    """Every call, "first that applies, in this order", over a way to find what a bay holds and a way to put something there.
+    """Every call, by the first number that applies, over a way to find what a bay holds and a way to put something there.
 
     `find(words, bay)` tells whether there is such a bay, what it holds (None, UNSOUND or an entry) and the conditions of 1 and 2. `put`
     hands back the words that are set. A condition that speaks of what is not there (the edition of an empty bay) does not hold, except that
@@ -235,7 +235,7 @@ class Ledger(Calls):
         return data
 
     def loaded(self, data):
-        """By the law of entries with the same record, a bay loaded from the record of m counts as holding m."""
+        """SPEC, "The plain ledger": entries with one record are alike, so what was loaded from the record of a message holds it."""
         entry = Entry.loaded(data)
         if data in self.messages:
             entry.head, entry.was_saved = self.messages[data][: entry.before], True

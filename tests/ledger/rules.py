@@ -1,4 +1,4 @@
-"""Document 01's rules of hashing, of what is sound, of records, lists and trees, written plainly. Both models of the calls use them."""
+"""SPEC's rules of hashing, of what is sound, of records, lists and trees, written plainly. Both models of the calls use them."""
 import hashlib
 import math
 import struct

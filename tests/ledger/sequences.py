@@ -1,9 +1,10 @@
-"""Random sequences of calls. What is asked follows what the model holds, so that all that 01 speaks of comes about often."""
+"""Random sequences of calls. What is asked follows what the model holds, so that all that SPEC speaks of comes about often."""
 import struct
 
 import inputs
 import rules
-from calls import GUARD_WORDS, Script
+from calls import Script
+from driver import GUARD_WORDS
 from inputs import LONGEST, OTHER_BAYS, OTHER_COUNTS_OF_BAYS, OTHER_EDITIONS, TOP
 from ledger import UNSOUND, Entry
 from rules import BAY, EDITIONS, HEADER, Wrong
@@ -279,7 +280,7 @@ def words_sequence(rng, length, coverage):
 
 
 def samples(rng, coverage):
-    """Document 01, "Samples", as far as they are calls, with 01's own numbers, to which the model is held too; and the longest map, and one
+    """SPEC, "Samples", as far as they are calls, with its own numbers, to which the model is held too; and the longest map, and one
     byte less and more."""
     script = Script("ledger", some_memory(rng, 1668), coverage, rng)
 
@@ -289,12 +290,12 @@ def samples(rng, coverage):
             raise Wrong(f"{script.steps[-1]} is {told} in the samples, and {answer.number} by the model")
         return answer
 
-    # "L=30 with N=1 lays out; L=29 is 11. N=64 needs 1,668 words."
+    # one bay fits 30 words and not 29, and 64 bays 1,668 and not 1,667
     expect(11, "lay_out", 29, 1)
     expect(0, "lay_out", 30, 1)
     expect(11, "lay_out", 1667, 64)
     expect(0, "lay_out", 1668, 64)
-    # "A loaded bay with c=2^40 takes no bytes but closes with 7 bits; one byte more is 7."
+    # a bay at the length limit takes an add of no bytes, refuses one of a byte, and still closes with 7 bits
     for number, edition in EDITIONS.items():
         chain = [rng.getrandbits(edition.width.bits) for _ in range(8)]
         expect(0, "load", 1668, number, rules.record(number, 2**40, chain, b""))
@@ -302,7 +303,7 @@ def samples(rng, coverage):
         expect(7, "add", 1668, number, b"a")
         expect(0, "ask", 1668, number)
         expect(0, "close", 1668, number, 0xAA, 7, (edition.digest, 0))
-    # "Closing byte 68 with b=4 is 8; output of 31 bytes for edition 2 is 9; both at once is 8."
+    # a set bit below the closing bits is judged before an output that is a byte too short
     expect(0, "open", 1668, 0, 2)
     expect(0, "add", 1668, 0, b"abc")
     record = expect(0, "save", 1668, 0, (59, 0)).wrote
@@ -310,7 +311,7 @@ def samples(rng, coverage):
     expect(9, "close", 1668, 0, 0, 0, (31, 0))
     expect(8, "close", 1668, 0, 0x68, 4, (31, 0))
     expect(0, "close", 1668, 0, 0x68, 5, (32, 0))
-    # "record of edition 2 after `abc`", but for its starting words; "empty list, edition 2"
+    # the record of edition 2 after `abc`, but for its starting words; the list of edition 2 with no entries
     if record[:24].hex() != "0002000800180038" + "00" * 7 + "03" + "0003003b00000000" or record[56:] != b"abc":
         raise Wrong("the record after abc is not the one of the samples")
     expect(13, "lookup", bytes.fromhex("00020000" + 3 * "00000010"), b"yard.map")

@@ -1,4 +1,4 @@
-"""The calls by document 01's rules for the words themselves, for tables that anything may have happened to: the header and the bay are
+"""The calls by SPEC's rules for the words themselves, for tables that anything may have happened to: the header and the bay are
 looked at anew at every call. A sound bay is what its record would load as. Answers are as in ledger.py."""
 import struct
 

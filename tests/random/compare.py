@@ -1,4 +1,4 @@
-"""Random messages through the program hashstream, against Digest::SHA and hashlib. tests/random/run says how it is run."""
+"""Random messages through the C interface, hash at once, against Digest::SHA and hashlib. tests/random/run says how it is run."""
 import hashlib
 import os
 import random
@@ -6,17 +6,17 @@ import struct
 import subprocess
 import sys
 import tempfile
+from collections import Counter
 from pathlib import Path
 
-here = Path(__file__).resolve().parent
-root = here.parents[1]
+from driver import ALIGNED, Call, compare
 
-# document 01, "Editions": digest bytes; and hashlib's name
+# SPEC, "Editions": digest bytes; and hashlib's name
 DIGEST = {1: 28, 2: 32, 3: 48, 4: 64, 5: 28, 6: 32}
 NAME = {1: "sha224", 2: "sha256", 3: "sha384", 4: "sha512", 5: "sha512_224", 6: "sha512_256"}
+LONGEST = 2**40  # SPEC, "Padding": bytes of a message
 # where padding changes its count of blocks, at either width
 EDGES = (55, 56, 63, 64, 111, 112, 119, 120, 127, 128)
-UNTOUCHED = 0x5A
 LONGEST_OUTPUT = 96
 
 seed = int(os.environ.get("SEED") or random.SystemRandom().randrange(2**32))
@@ -24,29 +24,34 @@ rng = random.Random(seed)
 
 
 class Case:
+    """Hash at once. A message that is a number is so many zeros, more than can be sent; it is one that is refused."""
+
     def __init__(self, edition, message, bits, closing, out):
         self.edition, self.message, self.bits, self.closing, self.out = edition, message, bits, closing, out
 
-    def packed(self):
-        return struct.pack(">QQQBB", self.edition, self.bits, len(self.message), self.closing, self.out) + self.message
-
     def refusal(self):
-        """Document 01, "Hash at once: 5,7,8,9", the first that applies; no message here is over 2^40 bytes."""
+        """SPEC, "Calls and their numbers": 5, 7, 8, 9, the first that applies."""
         if self.edition not in DIGEST:
             return 5
+        if isinstance(self.message, int) and self.message > LONGEST:
+            return 7
         if self.bits > 7 or self.closing & (0xFF >> self.bits):
             return 8
         if self.out < DIGEST[self.edition]:
             return 9
         return 0
 
-    def __str__(self):
-        text = self.message.hex()
-        shown = text if len(text) <= 160 else f"{text[:160]}.. ({len(self.message)} bytes)"
-        return (
-            f"edition {self.edition}, {len(self.message)} bytes and {self.bits} bits, closing byte {self.closing:02x}, "
-            f"output of {self.out}, message {shown or '-'}"
-        )
+    def packed(self):
+        """As digests.pl reads it."""
+        return struct.pack(">BBBI", self.edition, self.bits, self.closing, len(self.message)) + self.message
+
+    def by_hashlib(self):
+        return hashlib.new(NAME[self.edition], self.message).digest()
+
+    def call(self):
+        """The call, with bytes and output anywhere."""
+        args = (self.edition, self.message, self.closing, self.bits, (self.out, where.randrange(256)))
+        return Call("hash", args, where.randrange(ALIGNED**2))
 
 
 def content(n):
@@ -82,7 +87,7 @@ def messages(edition):
 
 
 def refused():
-    # document 01, "Samples": closing byte 68 with b=4 is 8; output of 31 bytes for edition 2 is 9; both at once is 8
+    # SPEC, "Samples": closing byte 68 with b=4 is 8; output of 31 bytes for edition 2 is 9; both at once is 8
     yield Case(2, b"", 4, 0x68, 32)
     yield Case(2, b"", 0, 0x00, 31)
     yield Case(2, b"", 4, 0x68, 31)
@@ -101,59 +106,49 @@ def refused():
         for out in range(DIGEST[edition]):
             bits = rng.randrange(8)
             yield Case(edition, content(rng.randrange(300)), bits, upper(bits), out)
+    # too many bytes, by themselves and with what is refused before and after it
+    for edition in (*DIGEST, 7):
+        for n in (LONGEST + 1, LONGEST + rng.randrange(2, LONGEST)):
+            for bits, closing, out in ((0, 0, LONGEST_OUTPUT), (8, 0, LONGEST_OUTPUT), (3, 0x10, LONGEST_OUTPUT), (0, 0, 0), (9, 0xFF, 0)):
+                yield Case(edition, n, bits, closing, out)
 
 
-def run(command, data):
-    done = subprocess.run(command, stdin=data, stdout=subprocess.PIPE)
+def by_perl(cases):
+    """Each case with its digest by Digest::SHA."""
+    with tempfile.TemporaryFile() as data:
+        data.writelines(case.packed() for case in cases)
+        data.seek(0)
+        done = subprocess.run(["perl", Path(__file__).with_name("digests.pl")], stdin=data, stdout=subprocess.PIPE)
     if done.returncode != 0:
-        print(f"{command[0]} ended with status {done.returncode}")
-    return done.stdout
+        print(f"perl ended with status {done.returncode}")
+    return dict(zip(cases, map(bytes.fromhex, done.stdout.decode().split())))
 
 
-print(f"seed {seed} (SEED={seed} repeats this run)")
+def calls(cases):
+    """Each case as one call, with the reply that is expected."""
+    for case in cases:
+        call = case.call()
+        yield ((call, call.reply(case.refusal(), wrote=digests.get(case, b""))),)
+
+
+print(f"seed {seed} (SEED={seed} repeats this run)", flush=True)
 cases = [case for edition in DIGEST for case in messages(edition)] + list(refused())
 rng.shuffle(cases)
-with tempfile.TemporaryDirectory() as folder:
-    file = Path(folder) / "messages"
-    with file.open("wb") as data:
-        data.writelines(case.packed() for case in cases)
-    with file.open("rb") as data:
-        wrote = run([str(root / "tests/kit/x86-64"), str(root / "target/bin/hashstream")], data)
-    with file.open("rb") as data:
-        perl = run(["perl", str(here / "digests.pl")], data).decode().split()
+where = random.Random(f"{seed} places")
+hashed = [case for case in cases if case.refusal() == 0]
+whole = [case for case in hashed if case.bits == 0]
+digests = by_perl(hashed)
+passed, failed = compare(calls(cases))
+apart = [case for case in whole if digests.get(case) != case.by_hashlib()]
+failed += len(apart)
+for case in apart[:10]:
+    print(f"not ok: Digest::SHA and hashlib differ: {case.call()}")
 
-passed = failed = at = 0
-compared = dict.fromkeys(DIGEST, 0)
-bitwise = second = refusals = 0
-for i, case in enumerate(cases):
-    got = wrote[at : at + 1 + case.out]
-    at += 1 + case.out
-    number = case.refusal()
-    expected = [bytes([number]) + bytes([UNTOUCHED]) * case.out]
-    if number == 0:
-        rest = bytes([UNTOUCHED]) * (case.out - DIGEST[case.edition])
-        digests = [bytes.fromhex(perl[i]) if i < len(perl) else b""]
-        if case.bits == 0:
-            digests.append(hashlib.new(NAME[case.edition], case.message).digest())
-        expected = [b"\0" + digest + rest for digest in digests]
-        compared[case.edition] += 1
-        bitwise += case.bits != 0
-        second += case.bits == 0
-    else:
-        refusals += 1
-    if all(got == e for e in expected):
-        passed += 1
-        continue
-    failed += 1
-    if failed <= 10:
-        print(f"not ok: {case}\n    got      {got.hex()}")
-        for e in expected:
-            print(f"    expected {e.hex()}")
-if at != len(wrote):
-    failed += 1
-    print(f"not ok: hashstream wrote {len(wrote)} bytes, and {at} are its answers")
-
-print("messages of each edition: " + ", ".join(f"{e}: {n}" for e, n in compared.items()))
-print(f"{bitwise} with closing bits against Digest::SHA alone, {second} of whole bytes against hashlib too, {refusals} refusals")
+compared = Counter(case.edition for case in hashed)
+print("messages of each edition: " + ", ".join(f"{e}: {compared[e]}" for e in DIGEST))
+print(
+    f"{len(hashed) - len(whole)} with closing bits against Digest::SHA alone, {len(whole)} of whole bytes against hashlib too, "
+    f"{len(cases) - len(hashed)} refusals"
+)
 print(f"{passed} passed, {failed} failed")
 sys.exit(0 if failed == 0 else 1)

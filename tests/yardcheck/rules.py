@@ -1,4 +1,4 @@
-"""Document 01's digest list and what the program writes, once more in Python: nothing here is taken from the code that is tested."""
+"""SPEC's digest list and what the program writes, once more in Python: nothing here is taken from the code that is tested."""
 import hashlib
 import struct
 

@@ -1,4 +1,4 @@
-"""One yard: a temporary folder that the program checks, and what document 01 says of it (rules.py); and what yards are filled with."""
+"""One yard: a temporary folder that the program checks, and what SPEC says of it (rules.py); and what yards are filled with."""
 import os
 import random
 import shlex

@@ -1,4 +1,4 @@
-"""Yards, each checked by the program and compared with what document 01 says of it: every byte of standard output and the exit status. What
+"""Yards, each checked by the program and compared with what SPEC says of it: every byte of standard output and the exit status. What
 each name opens is known from how the yard was made, so nothing is read back to know what to expect.
 
 Not tried: a file of over 2^40 bytes, which would have to be read to its end (a sparse one too: hours); a fifo, which may wait for ever.
@@ -37,7 +37,7 @@ def of_the_paper():
     data = list_of(2, files)
     sample = b"OK fleet.cfg\nBAD offsets.cfg\nMISSING yard.map\n3 listed, 1 ok, 1 bad, 1 missing\n"
     assert report(data, reads) == (sample, 1)
-    yard("document 01's sample", data, reads)
+    yard("SPEC's sample", data, reads)
 
 
 def of_every_size():

@@ -1,5 +1,5 @@
--- What `Judged` settles: two outcomes that one statement allows coincide, `one-outcome`. The two ways to meet it: `refused` and `done`.
--- An answer is known by its number: `number-injective`.
+-- What `Judged` settles: two outcomes that one statement allows coincide, `outcome-settled` and `answer-settled`. The two ways to meet
+-- it: `refused` and `done`. An answer is known by its number: `number-injective`.
 use mathlib.Core.Path.{_≡_, refl, sym, _∙_, ap}
 use mathlib.Core.List.{List, [], _∷_}
 use Prim.Native.Nat.{ℕ, zero, suc}
@@ -39,23 +39,30 @@ answer-at a =
 pub number-injective : (a b : Answer) → numberOf a ≡ numberOf b → a ≡ b
 number-injective a b e = sym (answer-at a) ∙ ap (λ (n : ℕ). getD answers n Answer.Done) e ∙ answer-at b
 
-pub one-outcome : {A : Type 0} {tests : List Test} {old new : A} {r s : Answer} {left also : A} →
-    Judged tests old new r left → Judged tests old new s also → (r ≡ s) × (left ≡ also)
-one-outcome {r = r} {s = s} j k = (number-injective r s (j .answer ∙ sym (k .answer)), j .leaves ∙ sym (k .leaves))
+pub outcome-settled : {A : Type 0} {tests : List Test} {old new : A} {n m : ℕ} {left also : A} →
+    Judged tests old new n left → Judged tests old new m also → (n ≡ m) × (left ≡ also)
+outcome-settled j k = (j .answer ∙ sym (k .answer), j .leaves ∙ sym (k .leaves))
+
+-- the same of a call that answers an `Answer`
+pub answer-settled : {A : Type 0} {tests : List Test} {old new : A} (r s : Answer) {left also : A} →
+    Judged tests old new (numberOf r) left → Judged tests old new (numberOf s) also → (r ≡ s) × (left ≡ also)
+answer-settled r s j k =
+    let o = outcome-settled j k in
+    (number-injective r s (o .0), o .1)
 
 keeps-old : {A : Type 0} (n : ℕ) (old new : A) → T (ltb 0 n) → after n old new ≡ old
 keeps-old zero old new t = absurd t
 keeps-old (suc n) old new t = refl
 
--- a refusal: the tests give the number of r, which is not 0, and the old is left
-pub refused : {A : Type 0} {tests : List Test} {old new : A} {r : Answer} {left : A} →
-    first tests ≡ numberOf r → T (ltb 0 (numberOf r)) → left ≡ old → Judged tests old new r left
-refused {old = old} {new = new} {r = r} e t l = record { answer = sym e; leaves = l ∙ rw (e, keeps-old (numberOf r) old new t) }
+-- a refusal: the tests give the number, which is not 0, and the old is left
+pub refused : {A : Type 0} {tests : List Test} {old new : A} {n : ℕ} {left : A} →
+    first tests ≡ n → T (ltb 0 n) → left ≡ old → Judged tests old new n left
+refused {old = old} {new = new} {n = n} e t l = record { answer = sym e; leaves = l ∙ rw (e, keeps-old n old new t) }
 
 -- no test applies, and the new is left
-pub done : {A : Type 0} {tests : List Test} {old new : A} {left : A} → first tests ≡ 0 → left ≡ new → Judged tests old new Answer.Done left
+pub done : {A : Type 0} {tests : List Test} {old new : A} {left : A} → first tests ≡ 0 → left ≡ new → Judged tests old new 0 left
 done e l = record { answer = sym e; leaves = l ∙ rw e }
 
 -- the same of a statement that says what the result is
-pub one-value : {A : Type 0} {x r s : A} → r ≡ x → s ≡ x → r ≡ s
-one-value p q = p ∙ sym q
+pub value-settled : {A : Type 0} {x r s : A} → r ≡ x → s ≡ x → r ≡ s
+value-settled p q = p ∙ sym q

@@ -39,7 +39,7 @@ cond-zero : (b : Bool) {n m : ℕ} → zero < n → cond b n m ≡ 0 → (b ≡ 
 cond-zero true p e = absurd (omega arith)
 cond-zero false p e = (refl, e)
 
--- where the first that applies is 0, no test applies
+-- where `first` gives 0, no test applies
 pub passed : (ts : List Test) → T (refusing ts) → first ts ≡ 0 → (i : ℕ) → appliesAt ts i ≡ false
 unfolding first
 passed [] r e i = refl

@@ -1,11 +1,9 @@
--- How a call is judged: document 01, "First that applies, in this order" and "Every refusal returns its number and writes nothing".
--- A call's refusals are a list of tests; `Judged` says that the answer is the first that applies, and what is left of what was lent.
+-- How a call is judged: SPEC, "Calls and their numbers".
+-- A call's refusals are a list of tests; by `Judged` the earliest that holds is the answer, and decides what is left of what was lent.
 use mathlib.Core.Path.{_≡_}
 use mathlib.Core.Bool.{Bool, cond}
 use mathlib.Core.List.{List, [], _∷_}
 use Prim.Native.Nat.{ℕ, zero, suc}
-use Rattle.answers.specs.declared.Answer.{Answer}
-use Rattle.answers.specs.Numbers.{numberOf}
 
 -- one reason to refuse: its number, and whether it applies
 pub record Test : Type 0 where
@@ -17,7 +15,7 @@ infix 68 _when_
 abbrev pub _when_ : ℕ → Bool → Test
 n when b = record { number = n; applies = b }
 
--- the number of the first test that applies, 0 where none does
+-- the number of the earliest test that applies; 0 where all are passed
 unfoldable pub first : List Test → ℕ
 first [] = 0
 first (t ∷ ts) = cond (t .applies) (t .number) (first ts)
@@ -35,7 +33,7 @@ pub record Lent : Type 0 where
 abbrev pub lent : List ℕ → List ℕ → Lent
 lent t o = record { table = t; output = o }
 
--- the outcome that the tests allow: the answer r, and `left` of what was lent
-pub record Judged {A : Type 0} (tests : List Test) (old new : A) (r : Answer) (left : A) : Type 0 where
-  pub answer : numberOf r ≡ first tests
+-- the outcome that the tests allow: the number n of the answer, and `left` of what was lent
+pub record Judged {A : Type 0} (tests : List Test) (old new : A) (n : ℕ) (left : A) : Type 0 where
+  pub answer : n ≡ first tests
   pub leaves : left ≡ after (first tests) old new

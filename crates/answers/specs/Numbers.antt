@@ -1,4 +1,4 @@
--- The number of each answer: document 01, "Calls and their numbers".
+-- The number of each answer: SPEC, "Calls and their numbers".
 -- `numberOf` has a clause for each row of that table.
 use Prim.Native.Nat.{ℕ}
 use Rattle.answers.specs.declared.Answer.{Answer}

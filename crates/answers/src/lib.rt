@@ -1,38 +1,38 @@
-// The answers that the calls give: document 01, "Calls and their numbers".
+// The answers that the calls give: SPEC, "Calls and their numbers".
 // An enum with a case for each number of its table, in the table's order, and the number of a case.
 ghost use mathlib.Core.Path.{_≡_};
 ghost use Rattle.answers.specs.Numbers.{numberOf};
 
 pub enum Answer {
-    // 0: done
+    // 0: the call did what was asked
     Done,
-    // 1: header or L not as above
+    // 1: the run is no table of bays
     BadTable,
-    // 2: bay ≥ N
+    // 2: the table has no bay of that number
     NoSuchBay,
-    // 3: bay taken
+    // 3: something is in the bay already
     BayTaken,
-    // 4: bay empty
+    // 4: nothing is in the bay
     BayEmpty,
-    // 5: no such edition
+    // 5: the number names no edition
     NoSuchEdition,
-    // 6: bay not sound
+    // 6: what is in the bay breaks a rule
     NotSound,
-    // 7: would pass a length limit
+    // 7: the message or the map would be too long
     TooLong,
-    // 8: more than 7 closing bits, or a set bit below them
+    // 8: too many closing bits, or a 1 in the closing byte behind them
     BadClosing,
-    // 9: output shorter than what must be written
+    // 9: the result finds no room in the output
     ShortOutput,
-    // 10: record not as above
+    // 10: the bytes are no saved record
     BadRecord,
-    // 11: N not 1 to 64, or L < 4+26N
+    // 11: so many bays cannot be laid out in the run
     BadLayout,
-    // 12: not a digest list
+    // 12: the bytes are no digest list
     NotAList,
-    // 13: name not listed
+    // 13: the list does not have the name
     NotListed,
-    // 14: digest differs
+    // 14: the list has another digest
     DigestDiffers,
 }
 

@@ -2,19 +2,22 @@
 -- The header, the length and the caller's words: `putBay-header`, `headed-putBay`, `length-putBay`, `putBay-past`.
 use Prim.Native.Nat.{ℕ, _+_, _-_, _<_, _≤_}
 use mathlib.Core.Bool.{true}
-use mathlib.Core.List.{List, [], _∷_, _++_}
+use mathlib.Core.List.{List, [], _∷_}
 use mathlib.Core.Path.{_≡_, sym, ap, _∙_}
 use native.Mathlib.Decide.{decLt}
 use native.Mathlib.Nat.{add-sub-cancel-left}
 use native.Mathlib.Omega.{arith}
 use lib.Dec.{leb, eqb}
-use lib.ListN.{length, take, drop, getD, length-append, length-take, length-drop, take-append-drop}
-use lib.Seq.{take-at, drop-at, take-append-le, drop-append-le, take-take, drop-drop, getD-take, length-take-le}
-use borrow.Author.Tests.{leb-true}
-use Rattle.halfread.proofs.Lists.{holds-at}
-use Rattle.bigendian.specs.BigEndian.{Below}
-use Rattle.bigendian.proofs.Below.{below-take, below-drop, below-append}
-use Rattle.bays.specs.Table.{firstBay, bayWords, mostBays, placeOf, baysOf, roomFor, headed, bayAt, putBay}
+use lib.ListN.{length, take, drop, getD}
+use lib.Seq.{getD-take}
+use borrow.Author.Tests.{leb-true, eq-eqb}
+use Rattle.slices.proofs.Tests.{holds-at, holds-on, holds-last}
+use Rattle.slices.specs.Below.{Below}
+use Rattle.slices.proofs.Below.{below-take, below-drop}
+use Rattle.bays.specs.Places.{firstBay, bayWords, mostBays, placeOf}
+use Rattle.bays.specs.Table.{baysOf, roomFor, headed, bayAt, putBay}
+use Rattle.slices.proofs.Parts.{length-part, length-put-in, part-put, take-put, drop-put, part-before, part-after, below-put, put-same}
+use Rattle.slices.specs.Parts.{putPart, part}
 
 -- ---- what a header gives
 
@@ -39,7 +42,8 @@ headed-room t e =
 pub headed-of : (t : List ℕ) → roomFor (baysOf t) (length t) ≡ true → getD t 1 0 ≡ firstBay → getD t 2 0 ≡ bayWords → getD t 3 0 ≡ 0 →
     headed t ≡ true
 unfolding headed
-headed-of t room first words zero = rw (room, first, words, zero)
+headed-of t room first words zero =
+    holds-on _ _ room ∙ holds-on _ _ (eq-eqb _ _ first) ∙ holds-on _ _ (eq-eqb _ _ words) ∙ holds-last _ ∙ eq-eqb _ _ zero
 
 -- a bay below N lies within the run
 pub bay-inside : (t : List ℕ) (i : ℕ) → headed t ≡ true → i < baysOf t → placeOf i + bayWords ≤ length t
@@ -50,16 +54,11 @@ pub headed-same : (t u : List ℕ) → length t ≡ length u → ((k : ℕ) → 
 unfolding headed
 headed-same t u l h = rw (l, h 0 (omega arith), h 1 (omega arith), h 2 (omega arith), h 3 (omega arith))
 
--- ---- a part of a list
-
--- a part that ends within the front
-front-part : (a k : ℕ) (xs ys : List ℕ) → a + k ≤ length xs → take k (drop a (xs ++ ys)) ≡ take k (drop a xs)
-front-part a k xs ys h =
-    rw (drop-append-le a xs ys (omega arith)) (take-append-le k (drop a xs) ys (rw (length-drop a xs) (omega arith)))
+-- ---- a bay where it lies
 
 pub length-bayAt : (t : List ℕ) (i : ℕ) → placeOf i + bayWords ≤ length t → length (bayAt t i) ≡ bayWords
 unfolding bayAt
-length-bayAt t i h = simp (length-take, length-drop) (omega arith)
+length-bayAt t i h = length-part (placeOf i) bayWords t h
 
 pub below-bayAt : {m : ℕ} (t : List ℕ) (i : ℕ) → Below m t → Below m (bayAt t i)
 unfolding bayAt
@@ -68,51 +67,30 @@ below-bayAt t i h = below-take bayWords (drop (placeOf i) t) (below-drop (placeO
 -- ---- bay i written
 
 module _ (t : List ℕ) (i : ℕ) (b : List ℕ) (fits : length b ≡ bayWords) (inside : placeOf i + bayWords ≤ length t) where
-  front-long : length (take (placeOf i) t) ≡ placeOf i
-  front-long = length-take-le (placeOf i) t (omega arith)
-
-  drop-front : drop (placeOf i) (putBay t i b) ≡ b ++ drop bayWords (drop (placeOf i) t)
-  unfolding putBay
-  drop-front = drop-at (take (placeOf i) t) (b ++ drop bayWords (drop (placeOf i) t)) (placeOf i) front-long
-
   pub length-putBay : length (putBay t i b) ≡ length t
   unfolding putBay
-  length-putBay = simp (length-append, length-drop, front-long, fits) (omega arith)
+  length-putBay = length-put-in (placeOf i) bayWords b t fits inside
 
   pub bayAt-putBay : bayAt (putBay t i b) i ≡ b
-  unfolding bayAt
-  bayAt-putBay = rw drop-front (take-at b (drop bayWords (drop (placeOf i) t)) bayWords fits)
+  unfolding bayAt putBay
+  bayAt-putBay = part-put (placeOf i) bayWords b t fits inside
 
   -- words before the bay, and words after it
   pub take-putBay : (n : ℕ) → n ≤ placeOf i → take n (putBay t i b) ≡ take n t
   unfolding putBay
-  take-putBay n h =
-      take-append-le n (take (placeOf i) t) (b ++ drop bayWords (drop (placeOf i) t)) (rw front-long h) ∙ take-take n (placeOf i) t h
-
-  drop-after : drop (placeOf i + bayWords) (putBay t i b) ≡ drop (placeOf i + bayWords) t
-  drop-after =
-      sym (drop-drop bayWords (placeOf i) (putBay t i b))
-      ∙ ap (drop bayWords) drop-front
-      ∙ drop-at b (drop bayWords (drop (placeOf i) t)) bayWords fits
-      ∙ drop-drop bayWords (placeOf i) t
+  take-putBay = take-put (placeOf i) bayWords b t fits inside
 
   pub drop-putBay : (n : ℕ) → placeOf i + bayWords ≤ n → drop n (putBay t i b) ≡ drop n t
-  drop-putBay n h =
-      let m = n - (placeOf i + bayWords) in
-      let e : n ≡ placeOf i + bayWords + m = omega arith in
-      rw e (sym (drop-drop m (placeOf i + bayWords) (putBay t i b)) ∙ ap (drop m) drop-after ∙ drop-drop m (placeOf i + bayWords) t)
+  unfolding putBay
+  drop-putBay = drop-put (placeOf i) bayWords b t fits inside
 
   before-bay : (j : ℕ) → j < i → bayAt (putBay t i b) j ≡ bayAt t j
   unfolding bayAt putBay
-  before-bay j h =
-      let room : placeOf j + bayWords ≤ length (take (placeOf i) t) = rw front-long (omega arith) in
-      front-part (placeOf j) bayWords (take (placeOf i) t) (b ++ drop bayWords (drop (placeOf i) t)) room
-      ∙ sym (front-part (placeOf j) bayWords (take (placeOf i) t) (drop (placeOf i) t) room)
-      ∙ ap (λ (l : List ℕ). take bayWords (drop (placeOf j) l)) (take-append-drop (placeOf i) t)
+  before-bay j h = part-before (placeOf i) bayWords b t fits inside (placeOf j) bayWords (omega arith)
 
   after-bay : (j : ℕ) → i < j → bayAt (putBay t i b) j ≡ bayAt t j
-  unfolding bayAt
-  after-bay j h = ap (take bayWords) (drop-putBay (placeOf j) (omega arith))
+  unfolding bayAt putBay
+  after-bay j h = part-after (placeOf i) bayWords b t fits inside (placeOf j) bayWords (omega arith)
 
   pub bayAt-other : (j : ℕ) → (j ≡ i → ⊥) → bayAt (putBay t i b) j ≡ bayAt t j
   bayAt-other j ne = go (decLt j i)
@@ -139,25 +117,23 @@ module _ (t : List ℕ) (i : ℕ) (b : List ℕ) (fits : length b ≡ bayWords) 
 
 pub below-putBay : {m : ℕ} (t : List ℕ) (i : ℕ) (b : List ℕ) → Below m t → Below m b → Below m (putBay t i b)
 unfolding putBay
-below-putBay t i b h k =
-    below-append (take (placeOf i) t) (b ++ drop bayWords (drop (placeOf i) t)) (below-take (placeOf i) t h)
-    (below-append b (drop bayWords (drop (placeOf i) t)) k (below-drop bayWords (drop (placeOf i) t) (below-drop (placeOf i) t h)))
+below-putBay t i b h k = below-put (placeOf i) bayWords b t h k
 
 -- the same words put back
 pub putBay-same : (t : List ℕ) (i : ℕ) → putBay t i (bayAt t i) ≡ t
 unfolding putBay bayAt
-putBay-same t i = rw (take-append-drop bayWords (drop (placeOf i) t)) (take-append-drop (placeOf i) t)
+putBay-same t i = put-same (placeOf i) bayWords t
 
 -- ---- as the code has it: the part from the place `at` on, lent and come back
 
-pub part-at : (t : List ℕ) (i at : ℕ) → at ≡ placeOf i → take (at + bayWords - at) (drop at t) ≡ bayAt t i
+pub bay-at : (t : List ℕ) (i at : ℕ) → at ≡ placeOf i → part t at (at + bayWords - at) ≡ bayAt t i
 unfolding bayAt
-part-at t i at e = rw (add-sub-cancel-left at bayWords, e)
+bay-at t i at e = rw (add-sub-cancel-left at bayWords, e)
 
-pub part-back : (t b : List ℕ) (i at : ℕ) → at ≡ placeOf i → take at t ++ (b ++ drop (at + bayWords - at) (drop at t)) ≡ putBay t i b
+pub bay-back : (t b : List ℕ) (i at : ℕ) → at ≡ placeOf i → putPart at (at + bayWords - at) b t ≡ putBay t i b
 unfolding putBay
-part-back t b i at e = rw (add-sub-cancel-left at bayWords, e)
+bay-back t b i at e = rw (add-sub-cancel-left at bayWords, e)
 
-pub length-part : (t : List ℕ) (i at : ℕ) → at ≡ placeOf i → placeOf i + bayWords ≤ length t →
-    length (take (at + bayWords - at) (drop at t)) ≡ bayWords
-length-part t i at e h = ap length (part-at t i at e) ∙ length-bayAt t i h
+pub length-bay : (t : List ℕ) (i at : ℕ) → at ≡ placeOf i → placeOf i + bayWords ≤ length t →
+    length (part t at (at + bayWords - at)) ≡ bayWords
+length-bay t i at e h = ap length (bay-at t i at e) ∙ length-bayAt t i h

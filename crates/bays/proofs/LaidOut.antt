@@ -9,7 +9,8 @@ use native.Mathlib.Omega.{arith}
 use lib.ListN.{length, take, drop, set, replicate, length-append, length-take, length-drop, length-set}
 use lib.ListN.{length-replicate, replicate-append-replicate}
 use lib.Seq.{take-at, drop-at, drop-drop, drop-append-add}
-use Rattle.bays.specs.Table.{firstBay, bayWords, placeOf, baysOf, roomFor, headed, bayAt, laidOut}
+use Rattle.bays.specs.Places.{firstBay, bayWords, placeOf}
+use Rattle.bays.specs.Table.{baysOf, roomFor, headed, bayAt, laidOut}
 use Rattle.bays.specs.Bay.{emptyBay}
 use Rattle.bays.proofs.Frames.{room-of, headed-of}
 
@@ -68,8 +69,12 @@ module _ (n : ℕ) (t : List ℕ) where
 
 -- ---- as the code has it: four words set, and the part behind them lent and come back as zeros
 
+-- the header's words set one after the other
+abbrev headSet : ℕ → List ℕ → List ℕ
+headSet n t = set (set (set (set t 0 n) 1 firstBay) 2 bayWords) 3 0
+
 head-set : (t : List ℕ) (n : ℕ) → firstBay ≤ length t →
-    (take 4 (set (set (set (set t 0 n) 1 4) 2 26) 3 0) ≡ head n) × (drop 4 (set (set (set (set t 0 n) 1 4) 2 26) 3 0) ≡ drop 4 t)
+    (take firstBay (headSet n t) ≡ head n) × (drop firstBay (headSet n t) ≡ drop firstBay t)
 head-set [] n h = absurd (omega arith)
 head-set (a ∷ []) n h = absurd (omega arith)
 head-set (a ∷ b ∷ []) n h = absurd (omega arith)
@@ -78,7 +83,7 @@ head-set (a ∷ b ∷ c ∷ d ∷ t) n h = (refl, refl)
 
 module _ (t : List ℕ) (n : ℕ) (room : placeOf n ≤ length t) where
   abbrev begun : List ℕ
-  begun = set (set (set (set t 0 n) 1 firstBay) 2 bayWords) 3 0
+  begun = headSet n t
 
   pub begun-room : placeOf n ≤ length begun
   begun-room = simp length-set room

@@ -1,16 +1,10 @@
--- Laws of the table of bays; each function's folder cites them. Follows, Ledger, Alike and CallersWords hold the promise.
+-- Laws of the table of bays; each function's folder cites them, and so does the ledger.
 pub mod Frames
 pub mod LaidOut
 pub mod Packing
 pub mod Header
 pub mod Refusals
 pub mod Judging
-pub mod Outcomes
+pub mod Settled
 pub mod Runs
-pub mod Entries
-pub mod Follows
-pub mod CallByCall
-pub mod Ledger
-pub mod Alike
-pub mod CallersWords
 pub mod Records

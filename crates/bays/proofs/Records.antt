@@ -4,11 +4,11 @@ use mathlib.Core.Bool.{true}
 use mathlib.Core.List.{List}
 use mathlib.Core.Path.{_≡_, sym, ap, _∙_}
 use lib.ListN.{length}
-use Rattle.bigendian.specs.BigEndian.{Bytes, Below}
+use Rattle.slices.specs.Below.{Bytes, Below}
 use Rattle.halfread.specs.State.{sound}
-use Rattle.halfread.specs.Record.{recordOf, loaded, isRecord}
-use Rattle.halfread.proofs.Records.{saved-loads, loaded-saves, loaded-shaped}
-use Rattle.bays.specs.Table.{bayWords}
+use Rattle.records.specs.Record.{recordOf, loaded, isRecord}
+use Rattle.records.proofs.Records.{saved-loads, loaded-saves, loaded-shaped}
+use Rattle.bays.specs.Places.{bayWords}
 use Rattle.bays.specs.Bay.{halfOf, bayOf}
 use Rattle.bays.proofs.Packing.{shaped-halfOf, bayOf-halfOf, halfOf-bayOf}
 

@@ -1,80 +1,23 @@
--- How a call's answer is made of those of its parts: `stopped` by the first tests, `went-on` past them. An answer that is not Done refuses:
--- `refuses`. An empty bay is sound, so that 6 excludes 4 and 3: `vacant-refused` and `held-judged`, `first-free` and `first-taken`.
-use Prim.Native.Nat.{ℕ, zero, suc, _<_}
-use mathlib.Core.Bool.{true, false, not}
-use mathlib.Core.List.{List, [], _∷_, _++_}
-use mathlib.Core.Path.{_≡_, refl, sym, ap, subst, _∙_}
-use native.Mathlib.Nat.{zero-lt-suc}
+-- An empty bay is sound, so that 6 excludes 4 and 3: `vacant-refused` and `held-judged`, `first-free` and `first-taken`.
+use Prim.Native.Nat.{ℕ, _<_}
+use mathlib.Core.Bool.{true, false, not, Bool, cond}
 use native.Mathlib.Omega.{arith}
-use lib.Dec.{T, lt→ltb}
-use denote.Enum.Declared.{tagOf}
-use types.Run.{OneOf, miss}
-use Rattle.answers.specs.declared.Answer.{Answer}
-use Rattle.answers.specs.Judged.{Test, _when_, Judged, first, after}
-use Rattle.answers.specs.Numbers.{numberOf}
-use Rattle.answers.proofs.Answer as declared
-use Rattle.answers.proofs.Outcome.{number-injective, refused}
-use Rattle.answers.proofs.Tests.{refusing, passed, first-on, first-off}
+use mathlib.Core.List.{List, [], _∷_}
+use mathlib.Core.Path.{_≡_, refl, sym, _∙_}
+use Rattle.answers.specs.Judged.{Test, _when_, Judged, first}
 use Rattle.halfread.specs.State.{sound}
 use Rattle.bays.specs.Bay.{halfOf, isEmpty, soundBay}
 use Rattle.bays.proofs.Packing.{soundBay-empty, soundBay-taken}
 
--- ---- the cases of an answer that are left where it is not Done
-
-abbrev pub others : List ℕ
-others = 1 ∷ 2 ∷ 3 ∷ 4 ∷ 5 ∷ 6 ∷ 7 ∷ 8 ∷ 9 ∷ 10 ∷ 11 ∷ 12 ∷ 13 ∷ 14 ∷ []
-
-pub refuses : (a : Answer) → OneOf others (tagOf declared.the-type a) → 0 < numberOf a
-refuses a h = go (numberOf a) refl
-  where
-    go : (n : ℕ) → numberOf a ≡ n → 0 < n
-    go zero e =
-        let isDone : a ≡ Answer.Done = number-injective a Answer.Done e in
-        absurd (miss others 0 tt (subst (λ (x : Answer). OneOf others (tagOf declared.the-type x)) isDone h))
-    go (suc n) e = zero-lt-suc n
-
--- ---- two lists of tests
-
-module _ {A : Type 0} {old new : A} {r : Answer} {left : A} (ts us : List Test) where
-  -- the first list refuses
-  pub stopped : numberOf r ≡ first ts → 0 < numberOf r → left ≡ old → Judged (ts ++ us) old new r left
-  stopped e p l = refused (first-off ts us (omega arith) ∙ sym e) (lt→ltb 0 (numberOf r) p) l
-
-  -- the second decides
-  pub went-on : T (refusing ts) → first ts ≡ 0 → Judged us old new r left → Judged (ts ++ us) old new r left
-  went-on p e j =
-      let same : first (ts ++ us) ≡ first us = first-on ts us (passed ts p e) in
-      record { answer = j .answer ∙ sym same; leaves = rw same (j .leaves) }
-
--- ---- the outcome of a part
-
-module _ {A B : Type 0} {o n l : A} {old new left : B} {ts : List Test} {r : Answer} where
-  -- where a part refuses, the call refuses with it
-  pub part-refused : Judged ts o n r l → 0 < numberOf r → left ≡ old → Judged ts old new r left
-  part-refused j p e = refused (sym (j .answer)) (lt→ltb 0 (numberOf r) p) e
-
-pub done-first : {A : Type 0} {o n l : A} {ts : List Test} {r : Answer} → Judged ts o n r l → r ≡ Answer.Done → first ts ≡ 0
-done-first j d = sym (j .answer) ∙ ap numberOf d
-
-pub done-leaves : {A : Type 0} {o n l : A} {ts : List Test} {r : Answer} → Judged ts o n r l → r ≡ Answer.Done → l ≡ n
-done-leaves j d = j .leaves ∙ rw (done-first j d)
-
-pub kept-old : {A : Type 0} (k : ℕ) (o n : A) → 0 < k → after k o n ≡ o
-kept-old zero o n p = absurd (omega arith)
-kept-old (suc k) o n p = refl
-
-pub refused-leaves : {A : Type 0} {o n l : A} {ts : List Test} {r : Answer} → Judged ts o n r l → 0 < numberOf r → l ≡ o
-refused-leaves {o = o} {n = n} {ts = ts} j p = j .leaves ∙ kept-old (first ts) o n (rw (j .answer) at p)
-
--- the same with what was lent beside it
-after-map : {A B : Type 0} (f : A → B) (k : ℕ) (o n : A) → f (after k o n) ≡ after k (f o) (f n)
-after-map f zero o n = refl
-after-map f (suc k) o n = refl
-
-pub judged-map : {A B : Type 0} {o n l : A} {ts : List Test} {r : Answer} (f : A → B) → Judged ts o n r l → Judged ts (f o) (f n) r (f l)
-judged-map {o = o} {n = n} {ts = ts} f j = record { answer = j .answer; leaves = ap f (j .leaves) ∙ after-map f (first ts) o n }
-
 -- ---- 6 and 4, 6 and 3
+
+pub vacant-alone : (b : List ℕ) (n : ℕ) → 0 < n → first (4 when isEmpty b ∷ []) ≡ n → (isEmpty b ≡ true) × (n ≡ 4)
+unfolding first
+vacant-alone b n p e = go (isEmpty b) e
+  where
+    go : (k : Bool) → cond k 4 0 ≡ n → (k ≡ true) × (n ≡ 4)
+    go true q = (refl, sym q)
+    go false q = absurd (omega arith)
 
 module _ (b : List ℕ) (us : List Test) where
   pub first-vacant : isEmpty b ≡ true → first (6 when not (soundBay b) ∷ 4 when isEmpty b ∷ us) ≡ 4
@@ -87,12 +30,8 @@ module _ (b : List ℕ) (us : List Test) where
   first-held e = rw (soundBay-taken b e, e)
 
   module _ {A : Type 0} {old new left : A} where
-    pub vacant-refused : isEmpty b ≡ true → left ≡ old →
-        Judged (6 when not (soundBay b) ∷ 4 when isEmpty b ∷ us) old new Answer.BayEmpty left
-    vacant-refused e l = refused (first-vacant e) tt l
-
-    pub held-judged : {r : Answer} → isEmpty b ≡ false → Judged (6 when not (sound (halfOf b)) ∷ us) old new r left →
-        Judged (6 when not (soundBay b) ∷ 4 when isEmpty b ∷ us) old new r left
+    pub held-judged : {n : ℕ} → isEmpty b ≡ false → Judged (6 when not (sound (halfOf b)) ∷ us) old new n left →
+        Judged (6 when not (soundBay b) ∷ 4 when isEmpty b ∷ us) old new n left
     held-judged e j = record { answer = j .answer ∙ sym (first-held e); leaves = rw (first-held e) (j .leaves) }
 
 module _ (b : List ℕ) where

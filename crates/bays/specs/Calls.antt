@@ -1,17 +1,18 @@
--- The calls on the table: which refuses when, and what it leaves. Document 01, "Calls and their numbers".
--- `run` is one call: its answer, what ask tells, and the table and the output after it.
-use Prim.Native.Nat.{ℕ, _+_}
+-- The calls on the table: which refuses when, and what it leaves. SPEC, "Calls and their numbers".
+-- `Outcome` and `Asks` say what a call did; `run` is one call as a value: its answer, what ask tells, table and output after it.
+use Prim.Native.Nat.{ℕ}
 use mathlib.Core.Bool.{not}
 use mathlib.Core.List.{List, [], _∷_, _++_}
 use lib.Dec.{leb, ltb}
 use lib.ListN.{length}
-use Rattle.answers.specs.Judged.{Test, _when_, first, after, Lent, lent}
+use Rattle.answers.specs.Judged.{Test, _when_, first, after, Lent, lent, Judged}
 use Rattle.fips.specs.Editions.{known, digestBytes}
-use Rattle.sha2.specs.AtFront.{atFront}
-use Rattle.sha2.specs.Hash.{limit, closingFits}
+use Rattle.slices.specs.AtFront.{atFront}
+use Rattle.sha2.specs.Limit.{tooLong}
+use Rattle.sha2.specs.Closing.{closingFits}
 use Rattle.halfread.specs.declared.HalfRead.{HalfRead}
-use Rattle.halfread.specs.Steps.{opened, added, closed}
-use Rattle.halfread.specs.Record.{recordOf, recordLength, loaded, isRecord}
+use Rattle.halfread.specs.Steps.{opened, added, closedDigest}
+use Rattle.records.specs.Record.{recordOf, recordLength, loaded, isRecord}
 use Rattle.bays.specs.Table.{baysOf, roomFor, headed, bayAt, putBay, laidOut}
 use Rattle.bays.specs.Bay.{halfOf, bayOf, isEmpty, emptyBay, soundBay}
 
@@ -25,6 +26,17 @@ pub data Call : Type 0 where
   loading : (bay : ℕ) (bytes : List ℕ) → Call
   asking : (bay : ℕ) → Call
   dropping : (bay : ℕ) → Call
+
+-- what ask tells of a bay: its edition and its count
+pub record Told : Type 0 where
+  pub edition : ℕ
+  pub count : ℕ
+
+abbrev pub told : ℕ → ℕ → Told
+told e c = record { edition = e; count = c }
+
+abbrev pub nothingTold : Told
+nothingTold = told 0 0
 
 -- the output that is lent with the call
 abbrev pub outputOf : Call → List ℕ
@@ -49,62 +61,67 @@ module _ (t : List ℕ) where
   abbrev pub notSound : ℕ → Test
   notSound i = 6 when not (soundBay (bayAt t i))
 
-  abbrev pub taken : ℕ → Test
-  taken i = 3 when not (isEmpty (bayAt t i))
+  abbrev pub occupied : ℕ → Test
+  occupied i = 3 when not (isEmpty (bayAt t i))
 
   abbrev pub vacant : ℕ → Test
   vacant i = 4 when isEmpty (bayAt t i)
 
+  -- the same, and then 4: what is asked of a bay that must be taken
+  abbrev pub takenTests : ℕ → List Test
+  takenTests i = gateTests i ++ (vacant i ∷ [])
+
   -- the refusals in order
   unfoldable pub tests : Call → List Test
   tests (layOut n) = 11 when not (roomFor n (length t)) ∷ []
-  tests (opening i e) = gateTests i ++ (5 when not (known e) ∷ notSound i ∷ taken i ∷ [])
-  tests (adding i piece) = gateTests i ++ (notSound i ∷ vacant i ∷ 7 when ltb limit (halfAt i .count + length piece) ∷ [])
+  tests (opening i e) = gateTests i ++ (5 when not (known e) ∷ notSound i ∷ occupied i ∷ [])
+  tests (adding i piece) = gateTests i ++ (notSound i ∷ vacant i ∷ 7 when tooLong (halfAt i .edition) (halfAt i .count) (length piece) ∷ [])
   tests (closing i x b out) =
       gateTests i
       ++ (notSound i ∷ vacant i ∷ 8 when not (closingFits x b) ∷ 9 when ltb (length out) (digestBytes (halfAt i .edition)) ∷ [])
   tests (saving i out) = gateTests i ++ (notSound i ∷ vacant i ∷ 9 when ltb (length out) (recordLength (halfAt i)) ∷ [])
-  tests (loading i bytes) = gateTests i ++ (10 when not (isRecord bytes) ∷ notSound i ∷ taken i ∷ [])
+  tests (loading i bytes) = gateTests i ++ (10 when not (isRecord bytes) ∷ notSound i ∷ occupied i ∷ [])
   tests (asking i) = gateTests i ++ (notSound i ∷ [])
-  tests (dropping i) = gateTests i ++ (vacant i ∷ [])
+  tests (dropping i) = takenTests i
 
   -- what is left where nothing refuses
   unfoldable pub leaves : Call → Lent
   leaves (layOut n) = lent (laidOut n t) []
   leaves (opening i e) = lent (putBay t i (bayOf (opened e))) []
   leaves (adding i piece) = lent (putBay t i (bayOf (added (halfAt i) piece))) []
-  leaves (closing i x b out) = lent (putBay t i emptyBay) (atFront (closed (halfAt i) x b) out)
+  leaves (closing i x b out) = lent (putBay t i emptyBay) (atFront (closedDigest (halfAt i) x b) out)
   leaves (saving i out) = lent t (atFront (recordOf (halfAt i)) out)
   leaves (loading i bytes) = lent (putBay t i (bayOf (loaded bytes))) []
   leaves (asking i) = lent t []
   leaves (dropping i) = lent (putBay t i emptyBay) []
 
-  -- what ask tells of the bay: its edition and its count, both 0 where it is empty; no other call tells anything
-  abbrev pub toldEdition : Call → ℕ
-  toldEdition (layOut n) = 0
-  toldEdition (opening i e) = 0
-  toldEdition (adding i piece) = 0
-  toldEdition (closing i x b out) = 0
-  toldEdition (saving i out) = 0
-  toldEdition (loading i bytes) = 0
-  toldEdition (asking i) = halfAt i .edition
-  toldEdition (dropping i) = 0
+  -- what ask tells of the bay, which is nothing where it is empty; no other call tells anything
+  unfoldable pub tells : Call → Told
+  tells (layOut n) = nothingTold
+  tells (opening i e) = nothingTold
+  tells (adding i piece) = nothingTold
+  tells (closing i x b out) = nothingTold
+  tells (saving i out) = nothingTold
+  tells (loading i bytes) = nothingTold
+  tells (asking i) = told (halfAt i .edition) (halfAt i .count)
+  tells (dropping i) = nothingTold
 
-  abbrev pub toldCount : Call → ℕ
-  toldCount (layOut n) = 0
-  toldCount (opening i e) = 0
-  toldCount (adding i piece) = 0
-  toldCount (closing i x b out) = 0
-  toldCount (saving i out) = 0
-  toldCount (loading i bytes) = 0
-  toldCount (asking i) = halfAt i .count
-  toldCount (dropping i) = 0
+-- ---- what a call did: the relation that the contracts, the C names and the theorems cite
+
+-- the call c on the table t answered the number n, and left the table and the output as they are then
+abbrev pub Outcome : List ℕ → Call → ℕ → List ℕ → List ℕ → Type 0
+Outcome t c n left out = Judged (tests t c) (lent t (outputOf c)) (leaves t c) n (lent left out)
+
+-- an ask, which leaves everything, answered the number n and told that
+abbrev pub Asks : List ℕ → ℕ → ℕ → Told → Type 0
+Asks t i n says = Judged (tests t (asking i)) nothingTold (tells t (asking i)) n says
+
+-- ---- the same as a value
 
 -- what the caller sees of a call: the answer's number, what ask told, and the output buffer
 pub record Seen : Type 0 where
   pub answer : ℕ
-  pub edition : ℕ
-  pub count : ℕ
+  pub says : Told
   pub output : List ℕ
 
 pub record Ran : Type 0 where
@@ -117,6 +134,6 @@ run t c =
     let n : ℕ = first (tests t c) in
     let left : Lent = after n (lent t (outputOf c)) (leaves t c) in
     record {
-      seen = record { answer = n; edition = after n 0 (toldEdition t c); count = after n 0 (toldCount t c); output = left .output };
+      seen = record { answer = n; says = after n nothingTold (tells t c); output = left .output };
       table = left .table;
     }

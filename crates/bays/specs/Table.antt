@@ -1,35 +1,22 @@
--- The lent run of words: document 01, "The table of bays". Word 0 the count of bays N, word 1 the offset of the first bay, word 2 the words
--- of a bay, word 3 zero; then N bays; then what belongs to the caller.
-use Prim.Native.Nat.{ℕ, _+_, _*_}
+-- The lent run of words: SPEC, "The table of bays". `headed` asks whether it is a table, `laidOut` makes it one.
+use Prim.Native.Nat.{ℕ, _*_}
 use mathlib.Core.Bool.{Bool}
 use mathlib.Core.List.{List, [], _∷_, _++_}
 use lib.Dec.{leb, eqb}
-use lib.ListN.{length, take, drop, getD, replicate}
-use Rattle.halfread.specs.Lists.{holds}
+use lib.ListN.{length, drop, getD, replicate}
+use Rattle.slices.specs.Parts.{part, putPart}
+use Rattle.slices.specs.Tests.{holds}
+use Rattle.bays.specs.Places.{firstBay, mostBays, bayWords, placeOf}
 
--- the offset of the first bay, the words of a bay, and the most bays there are
-abbrev pub firstBay : ℕ
-firstBay = 4
-
-abbrev pub bayWords : ℕ
-bayWords = 26
-
-abbrev pub mostBays : ℕ
-mostBays = 64
-
--- where bay i begins; and where, with n bays, the caller's words begin
-abbrev pub placeOf : ℕ → ℕ
-placeOf i = firstBay + bayWords * i
-
--- N
+-- how many bays the header says
 abbrev pub baysOf : List ℕ → ℕ
 baysOf t = getD t 0 0
 
--- n bays, 1 to 64, in a run of l words
+-- n bays, at least one and no more than the most, in a run of l words
 unfoldable pub roomFor : ℕ → ℕ → Bool
 roomFor n l = holds (leb 1 n ∷ leb n mostBays ∷ leb (placeOf n) l ∷ [])
 
--- the header and the length are as they should be
+-- whether the run is a table
 unfoldable pub headed : List ℕ → Bool
 headed t =
     holds
@@ -41,11 +28,11 @@ headed t =
 
 -- bay i, and the run with other words in its place
 unfoldable pub bayAt : List ℕ → ℕ → List ℕ
-bayAt t i = take bayWords (drop (placeOf i) t)
+bayAt t i = part t (placeOf i) bayWords
 
 unfoldable pub putBay : List ℕ → ℕ → List ℕ → List ℕ
-putBay t i b = take (placeOf i) t ++ (b ++ drop bayWords (drop (placeOf i) t))
+putBay t i b = putPart (placeOf i) bayWords b t
 
--- the header of n bays, n bays of zeros, and the caller's words
+-- a header, that many empty bays, and behind them what was there
 unfoldable pub laidOut : ℕ → List ℕ → List ℕ
 laidOut n t = (n ∷ firstBay ∷ bayWords ∷ 0 ∷ []) ++ (replicate (bayWords * n) 0 ++ drop (placeOf n) t)

@@ -1,47 +1,21 @@
-// The 26 words of a bay: unpacked to a half-read message, packed again, and whether they are all zero. Document 01, "The table of bays".
+// The words of a bay: unpacked to a half-read message, and packed again. SPEC, "The table of bays".
 ghost use mathlib.Core.Path.{_≡_};
-ghost use lib.ListN.{length, replicate};
-ghost use Rattle.sha2.specs.AtFront.{atFront};
-ghost use Rattle.bays.specs.Table.{bayWords};
-ghost use Rattle.bays.specs.Bay.{halfOf, bayOf, isEmpty};
+ghost use lib.ListN.{length};
+ghost use Rattle.bays.specs.Places.{bayWords};
+ghost use Rattle.bays.specs.Bay.{halfOf, bayOf};
 use halfread::HalfRead;
+use slices::front::put_words_front;
 
-pub(crate) fn is_empty(words: &[u64]) -> bool
-    ensures { λ r. ⌜ r ≡ isEmpty (now (words .entry)) ⌝ }
-{
-    let mut i = 0;
-    while i < words.len() {
-        if words[i] != 0 {
-            return false;
-        }
-        i += 1;
-    }
-    true
-}
+// Where they stand: the edition, the bytes taken, the chaining words, and the tail, whose words go to the bay's end.
+const EDITION: usize = 0;
 
-pub(crate) fn clear(words: &mut [u64])
-    ensures { λ _. ⌜ now (words .exit) ≡ replicate (length (now (words .entry))) 0 ⌝ }
-{
-    let mut i = 0;
-    while i < words.len() {
-        words[i] = 0;
-        i += 1;
-    }
-}
+const COUNT: usize = 1;
 
-// The words at the front of a run, as many as it has room for.
-fn copy(run: &mut [u64], words: &[u64])
-    ensures { λ _. ⌜ now (run .exit) ≡ atFront (now (words .entry)) (now (run .entry)) ⌝ }
-{
-    let mut i = 0;
-    while i < run.len() {
-        if words.len() <= i {
-            return;
-        }
-        run[i] = words[i];
-        i += 1;
-    }
-}
+const CHAIN: usize = 2;
+
+const TAIL: usize = 10;
+
+pub(crate) const WORDS: usize = 26;
 
 // The chaining words are copied, and the words of the tail are made bytes.
 pub(crate) fn unpack(bay: &[u64]) -> HalfRead
@@ -49,12 +23,12 @@ pub(crate) fn unpack(bay: &[u64]) -> HalfRead
     ensures { λ r. ⌜ r ≡ halfOf (now (bay .entry)) ⌝ }
 {
     let mut words = [0u64; 8];
-    copy(&mut words, &bay[2..10]);
-    let mut tail = [0u8; 128];
-    bigendian::put_words(&mut tail, &bay[10..], 8);
+    put_words_front(&mut words, &bay[CHAIN..TAIL]);
+    let mut tail = [0u8; halfread::TAIL];
+    bigendian::put_words(&mut tail, &bay[TAIL..], 8);
     HalfRead {
-        edition: bay[0],
-        count: bay[1],
+        edition: bay[EDITION],
+        count: bay[COUNT],
         words,
         tail,
     }
@@ -66,8 +40,8 @@ pub(crate) fn pack(bay: &mut [u64], half: HalfRead)
 {
     let words = half.words;
     let tail = half.tail;
-    bay[0] = half.edition;
-    bay[1] = half.count;
-    copy(&mut bay[2..10], &words);
-    bigendian::get_words(&mut bay[10..], &tail, 8);
+    bay[EDITION] = half.edition;
+    bay[COUNT] = half.count;
+    put_words_front(&mut bay[CHAIN..TAIL], &words);
+    bigendian::get_words(&mut bay[TAIL..], &tail, 8);
 }

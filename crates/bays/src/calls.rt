@@ -1,28 +1,24 @@
-// The calls on the table: document 01, "Calls and their numbers". A call is the gate, its tests, and one write of one bay.
+// The calls on the table: SPEC, "Calls and their numbers". A call is the gate, its tests, and one write of one bay.
 ghost use mathlib.Core.List.{[]};
-ghost use mathlib.Core.Path.{_≡_};
-ghost use Rattle.answers.specs.Judged.{Judged, first, after, lent};
 ghost use Rattle.answers.specs.Numbers.{numberOf};
-ghost use Rattle.bays.specs.Calls.{Call, tests, leaves, toldEdition, toldCount};
-use crate::bay::clear;
+ghost use Rattle.bays.specs.Calls.{Call, told, Outcome, Asks};
+use crate::bay::WORDS;
 use crate::in_place::clear_at;
 use crate::in_place::empty_at;
+use crate::in_place::gate_taken;
 use crate::in_place::half_at;
 use crate::in_place::put_at;
 use crate::in_place::vacancy;
 use crate::table::FIRST;
-use crate::table::WORDS;
 use crate::table::gate;
 use crate::table::room_for;
 use answers::Answer;
 use halfread::sound::is_sound;
-use sha2::hashing::digest_bytes;
+use slices::zero::clear;
 
-// The header, and zeros in so many bays; what lies behind them is the caller's.
+// Writes the header and empties so many bays; the words behind them are left alone.
 pub fn lay_out(table: &mut [u64], bays: u64) -> Answer
-    ensures { λ r.
-        ⌜ Judged (tests (now (table .entry)) (Call.layOut bays)) (lent (now (table .entry)) [])
-        (leaves (now (table .entry)) (Call.layOut bays)) r (lent (now (table .exit)) []) ⌝ }
+    ensures { λ r. ⌜ Outcome (now (table .entry)) (Call.layOut bays) (numberOf r) (now (table .exit)) [] ⌝ }
 {
     if !room_for(bays, table.len()) {
         return Answer::BadLayout;
@@ -37,16 +33,13 @@ pub fn lay_out(table: &mut [u64], bays: u64) -> Answer
 }
 
 pub fn open(table: &mut [u64], bay: u64, edition: u64) -> Answer
-    ensures { λ r.
-        ⌜ Judged (tests (now (table .entry)) (Call.opening bay edition)) (lent (now (table .entry)) [])
-        (leaves (now (table .entry)) (Call.opening bay edition)) r (lent (now (table .exit)) []) ⌝ }
+    ensures { λ r. ⌜ Outcome (now (table .entry)) (Call.opening bay edition) (numberOf r) (now (table .exit)) [] ⌝ }
 {
     let passed = gate(table, bay);
     let Answer::Done = passed else {
         return passed;
     };
-    // an edition of the standard has a digest
-    if digest_bytes(edition) == 0 {
+    if !fips::lookup::known(edition) {
         return Answer::NoSuchEdition;
     }
     let vacant = vacancy(table, bay);
@@ -58,17 +51,12 @@ pub fn open(table: &mut [u64], bay: u64, edition: u64) -> Answer
 }
 
 pub fn add(table: &mut [u64], bay: u64, piece: &[u8]) -> Answer
-    ensures { λ r.
-        ⌜ Judged (tests (now (table .entry)) (Call.adding bay (now (piece .entry)))) (lent (now (table .entry)) [])
-        (leaves (now (table .entry)) (Call.adding bay (now (piece .entry)))) r (lent (now (table .exit)) []) ⌝ }
+    ensures { λ r. ⌜ Outcome (now (table .entry)) (Call.adding bay (now (piece .entry))) (numberOf r) (now (table .exit)) [] ⌝ }
 {
-    let passed = gate(table, bay);
+    let passed = gate_taken(table, bay);
     let Answer::Done = passed else {
         return passed;
     };
-    if empty_at(table, bay) {
-        return Answer::BayEmpty;
-    }
     let half = half_at(table, bay);
     let added = halfread::add::add(half, piece);
     let answer = added.answer;
@@ -83,17 +71,13 @@ pub fn add(table: &mut [u64], bay: u64, piece: &[u8]) -> Answer
 // The bay is emptied only once the digest is written.
 pub fn close(table: &mut [u64], bay: u64, closing: u8, bits: u64, out: &mut [u8]) -> Answer
     ensures { λ r.
-        ⌜ Judged (tests (now (table .entry)) (Call.closing bay closing bits (now (out .entry))))
-        (lent (now (table .entry)) (now (out .entry)))
-        (leaves (now (table .entry)) (Call.closing bay closing bits (now (out .entry)))) r (lent (now (table .exit)) (now (out .exit))) ⌝ }
+        ⌜ Outcome (now (table .entry)) (Call.closing bay closing bits (now (out .entry))) (numberOf r) (now (table .exit))
+        (now (out .exit)) ⌝ }
 {
-    let passed = gate(table, bay);
+    let passed = gate_taken(table, bay);
     let Answer::Done = passed else {
         return passed;
     };
-    if empty_at(table, bay) {
-        return Answer::BayEmpty;
-    }
     let closed = halfread::close::close(half_at(table, bay), closing, bits, out);
     let Answer::Done = closed else {
         return closed;
@@ -104,29 +88,23 @@ pub fn close(table: &mut [u64], bay: u64, closing: u8, bits: u64, out: &mut [u8]
 
 pub fn save(table: &[u64], bay: u64, out: &mut [u8]) -> Answer
     ensures { λ r.
-        ⌜ Judged (tests (now (table .entry)) (Call.saving bay (now (out .entry)))) (lent (now (table .entry)) (now (out .entry)))
-        (leaves (now (table .entry)) (Call.saving bay (now (out .entry)))) r (lent (now (table .exit)) (now (out .exit))) ⌝ }
+        ⌜ Outcome (now (table .entry)) (Call.saving bay (now (out .entry))) (numberOf r) (now (table .exit)) (now (out .exit)) ⌝ }
 {
-    let passed = gate(table, bay);
+    let passed = gate_taken(table, bay);
     let Answer::Done = passed else {
         return passed;
     };
-    if empty_at(table, bay) {
-        return Answer::BayEmpty;
-    }
-    halfread::record::save(half_at(table, bay), out)
+    records::save(half_at(table, bay), out)
 }
 
 pub fn load(table: &mut [u64], bay: u64, record: &[u8]) -> Answer
-    ensures { λ r.
-        ⌜ Judged (tests (now (table .entry)) (Call.loading bay (now («record» .entry)))) (lent (now (table .entry)) [])
-        (leaves (now (table .entry)) (Call.loading bay (now («record» .entry)))) r (lent (now (table .exit)) []) ⌝ }
+    ensures { λ r. ⌜ Outcome (now (table .entry)) (Call.loading bay (now («record» .entry))) (numberOf r) (now (table .exit)) [] ⌝ }
 {
     let passed = gate(table, bay);
     let Answer::Done = passed else {
         return passed;
     };
-    let loaded = halfread::record::load(record);
+    let loaded = records::load(record);
     let answer = loaded.answer;
     let Answer::Done = answer else {
         return answer;
@@ -140,7 +118,7 @@ pub fn load(table: &mut [u64], bay: u64, record: &[u8]) -> Answer
     Answer::Done
 }
 
-// What ask tells: edition and bytes taken, both 0 for an empty bay or a refusal.
+// What ask tells; 0 and 0 where it is refused or nothing is in the bay.
 pub struct Asked {
     pub answer: Answer,
     pub edition: u64,
@@ -148,10 +126,7 @@ pub struct Asked {
 }
 
 pub fn ask(table: &[u64], bay: u64) -> Asked
-    ensures { λ r.
-        ⌜ (numberOf (r .answer) ≡ first (tests (now (table .entry)) (Call.asking bay)))
-        × (r .edition ≡ after (first (tests (now (table .entry)) (Call.asking bay))) 0 (toldEdition (now (table .entry)) (Call.asking bay)))
-        × (r .count ≡ after (first (tests (now (table .entry)) (Call.asking bay))) 0 (toldCount (now (table .entry)) (Call.asking bay))) ⌝ }
+    ensures { λ r. ⌜ Asks (now (table .entry)) bay (numberOf (r .answer)) (told (r .edition) (r .count)) ⌝ }
 {
     let passed = gate(table, bay);
     let Answer::Done = passed else {
@@ -183,19 +158,14 @@ pub fn ask(table: &[u64], bay: u64) -> Asked
     }
 }
 
-// Any bay that is not all zeros is emptied, sound or not: so a damaged bay can be used again.
+// Whether the bay is sound is not asked: so a damaged one can be used again.
 pub fn drop(table: &mut [u64], bay: u64) -> Answer
-    ensures { λ r.
-        ⌜ Judged (tests (now (table .entry)) (Call.dropping bay)) (lent (now (table .entry)) [])
-        (leaves (now (table .entry)) (Call.dropping bay)) r (lent (now (table .exit)) []) ⌝ }
+    ensures { λ r. ⌜ Outcome (now (table .entry)) (Call.dropping bay) (numberOf r) (now (table .exit)) [] ⌝ }
 {
-    let passed = gate(table, bay);
+    let passed = gate_taken(table, bay);
     let Answer::Done = passed else {
         return passed;
     };
-    if empty_at(table, bay) {
-        return Answer::BayEmpty;
-    }
     clear_at(table, bay);
     Answer::Done
 }

@@ -1,25 +1,27 @@
-// The lent run of words: its header, the gate that every call on a bay passes, and where a bay lies. Document 01, "The table of bays".
+// The lent run of words: its header, the gate that every call on a bay passes, and where a bay lies. SPEC, "The table of bays".
 ghost use mathlib.Core.Path.{_≡_};
 ghost use Prim.Native.Nat.{_+_, _≤_};
 ghost use Rattle.answers.specs.Judged.{first};
 ghost use Rattle.answers.specs.Numbers.{numberOf};
-ghost use Rattle.bays.specs.Table.{bayWords, placeOf, roomFor, headed};
+ghost use Rattle.bays.specs.Places.{bayWords, placeOf};
+ghost use Rattle.bays.specs.Table.{roomFor, headed};
 ghost use Rattle.bays.specs.Calls.{gateTests};
+use crate::bay::WORDS;
 use answers::Answer;
 
-// The offset of the first bay, and the words of a bay.
+// The header's words, in front of the first bay, and the most bays that a table has.
 pub(crate) const FIRST: usize = 4;
 
-pub(crate) const WORDS: usize = 26;
+const MOST: u64 = 64;
 
-// Whether so many bays, 1 to 64, find room in a run of so many words.
+// Whether so many bays, at least one and no more than the most, find room in a run of so many words.
 pub(crate) fn room_for(bays: u64, len: usize) -> bool
     ensures { λ r. ⌜ r ≡ roomFor bays len ⌝ }
 {
     if bays < 1 {
         return false;
     }
-    if 64 < bays {
+    if MOST < bays {
         return false;
     }
     FIRST + WORDS * bays as usize <= len

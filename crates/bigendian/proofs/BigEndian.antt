@@ -5,17 +5,23 @@ use mathlib.Core.List.{List, [], _∷_, _++_}
 use Prim.Native.Nat.{ℕ, zero, suc, _+_, _-_, _*_, _/_, _%_, _^_, _<_, _≤_}
 use native.Mathlib.Nat.{add-assoc, add-comm, zero-add, suc-add, add-mul, mul-assoc, zero-mul, pow-succ', one-le-pow, mod-lt}
 use native.Mathlib.Nat.{mod-eq-of-lt, div-eq-of-lt, div-add-mod', div-div-eq-div-mul, mul-add-div-right, mul-add-mod-self-right}
-use native.Mathlib.Nat.{mod-one, zero-div, suc-sub-suc, lt-of-lt-of-le, pow-le-pow-right}
+use native.Mathlib.Nat.{mod-one, mul-suc, pow-suc, zero-div, suc-sub-suc, lt-of-lt-of-le, pow-le-pow-right}
 use native.Mathlib.Omega.{arith}
 use lib.Arith.{digits-lt, digits-div, mod-mul}
 use lib.Dec.{lit<}
 use lib.ListN.{length, getD, replicate, length-append}
 use lib.Pow.{pow-add}
-use Rattle.bigendian.proofs.Below.{below-nil, below-cons}
-use Rattle.bigendian.specs.BigEndian.{be, number, Bytes, word64}
+use Rattle.slices.proofs.Below.{below-nil, below-cons}
+use Rattle.bigendian.specs.BigEndian.{be, number, word64}
+use Rattle.slices.specs.Below.{Bytes}
 
 pub pow-256-pos : (n : ℕ) → zero < 256 ^ n
 pow-256-pos n = one-le-pow n 256 (lit< tt)
+
+-- n bytes are 8 n bits
+pub pow-256 : (n : ℕ) → 256 ^ n ≡ 2 ^ (8 * n)
+pow-256 zero = refl
+pow-256 (suc n) = rw (pow-suc 256 n, pow-256 n, mul-suc 8 n, pow-add 2 (8 * n) 8)
 
 pub length-be : (n x : ℕ) → length (be n x) ≡ n
 unfolding be

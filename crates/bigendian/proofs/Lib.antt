@@ -1,4 +1,4 @@
-pub mod Below
 pub mod BigEndian
-pub mod Parts
 pub mod Words
+pub mod RowLaws
+pub mod Settled

@@ -11,9 +11,10 @@ use lib.Dec.{lit<}
 use lib.ListN.{length, getD, take, drop, length-append, length-take, length-drop, drop-of-length-le}
 use lib.Seq.{take-at, drop-at, take-add, drop-drop, take-append-le, drop-append-le, getD-take, getD-drop}
 use lib.Seq.{length-take-le, take-all, take-suc, take-length}
-use Rattle.bigendian.proofs.Below.{below-nil, below-cons, below-append, below-take, below-drop}
+use Rattle.slices.proofs.Below.{below-nil, below-cons, below-append, below-take, below-drop}
 use Rattle.bigendian.proofs.BigEndian.{length-be, be-bytes, number-be-lt, be-number, number-lt, pow-256-pos}
-use Rattle.bigendian.specs.BigEndian.{be, number, Below, Bytes, word64}
+use Rattle.bigendian.specs.BigEndian.{be, number, word64}
+use Rattle.slices.specs.Below.{Below, Bytes}
 use Rattle.bigendian.specs.Words.{fromWords, toWords, fitting, withWords}
 
 -- ---- words to bytes

@@ -1,8 +1,8 @@
--- Numbers and bytes, most significant first: document 01, "Bytes make words most significant first".
--- `be n x` is the n bytes of x, `number bs` the number that bytes make, and `Bytes` says of a list that each element is a byte.
+-- Numbers and bytes, most significant first: SPEC, "Specification", under its table of signs.
+-- `be n x` is the n bytes of x, `number bs` the number that bytes make.
 use mathlib.Core.List.{List, [], _∷_}
-use Prim.Native.Nat.{ℕ, zero, suc, _+_, _*_, _/_, _%_, _^_, _<_}
-use lib.ListN.{length, getD}
+use Prim.Native.Nat.{ℕ, zero, suc, _+_, _*_, _/_, _%_, _^_}
+use lib.ListN.{length}
 
 -- the last n bytes of x, most significant first
 unfoldable pub be : ℕ → ℕ → List ℕ
@@ -13,13 +13,6 @@ be (suc n) x = x / 256 ^ n % 256 ∷ be n x
 unfoldable pub number : List ℕ → ℕ
 number [] = 0
 number (b ∷ bs) = b * 256 ^ length bs + number bs
-
--- each element is below m
-abbrev pub Below : ℕ → List ℕ → Type 0
-Below m xs = (i : ℕ) → getD xs i 0 < m
-
-abbrev pub Bytes : List ℕ → Type 0
-Bytes xs = Below 256 xs
 
 -- what a word of 64 bits keeps of a number
 abbrev pub word64 : ℕ → ℕ

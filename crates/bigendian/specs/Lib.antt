@@ -1,2 +1,4 @@
 pub mod BigEndian
+pub mod code
+pub mod Rows
 pub mod Words

@@ -1,4 +1,4 @@
--- Words and bytes: document 01, "Bytes make words most significant first", of words of n bytes each that stand one after the other.
+-- Words and bytes: SPEC, "Specification", under its table of signs. Words of n bytes each stand one after the other.
 -- `fromWords n ws` is the bytes of the words ws, `toWords k n bs` the k words at the front of the bytes bs, `withWords n ws bs` those bytes
 -- with the words ws written there.
 use mathlib.Core.List.{List, [], _∷_, _++_}

@@ -1,4 +1,4 @@
--- What looking for a name tells a C program: document 01's number of each case, and the place and length of the digest, 0 where there is none.
+-- What looking for a name tells a C program: SPEC, "C names". A number for each case, and the digest's place and length, 0 where none is.
 use Prim.Native.Nat.{ℕ}
 use Rattle.lists.specs.declared.Found.{Found}
 

@@ -1,12 +1,12 @@
-// Dwombarine under C names, for include/dwombarine.h. Each function is the call of the same name: it answers that call's number, and leaves in
-// all that is lent to it what that call leaves. A slice is a pointer and a length.
+// Dwombarine under C names, for include/dwombarine.h: SPEC, "C names". Each function is the call of the same name: it answers that
+// call's number, and leaves in all that is lent to it what that call leaves. A slice is a pointer and a length.
 ghost use mathlib.Core.List.{[]};
 ghost use mathlib.Core.Path.{_≡_};
-ghost use Rattle.answers.specs.Judged.{first, after, lent};
-ghost use Rattle.bays.specs.Calls.{Call, tests, leaves, toldEdition, toldCount};
+ghost use Rattle.answers.specs.Judged.{first};
+ghost use Rattle.bays.specs.Calls.{Call, told, Outcome, Asks};
 ghost use Rattle.lists.specs.Calls.{found, judgeTests};
-ghost use Rattle.sha2.specs.Hash.{hashTests, hashed};
-ghost use Rattle.tree.specs.Tree.{treeTests, rooted};
+ghost use Rattle.sha2.specs.Hash.{Hashes};
+ghost use Rattle.tree.specs.Tree.{Trees};
 ghost use Rattle.capi.specs.Lookup.{foundNumber, foundAt, foundLength};
 use lists::Found;
 
@@ -18,40 +18,28 @@ pub extern "C" fn dw_hash(
     bits: u64,
     out: &mut [u8],
 ) -> u64
-    ensures { λ r. ⌜ r ≡ first (hashTests edition (now (message .entry)) closing bits (now (out .entry))) ⌝ }
-    ensures { λ r.
-        ⌜ now (out .exit) ≡ after (first (hashTests edition (now (message .entry)) closing bits (now (out .entry)))) (now (out .entry))
-        (hashed edition (now (message .entry)) closing bits (now (out .entry))) ⌝ }
+    ensures { λ r. ⌜ Hashes edition (now (message .entry)) closing bits (now (out .entry)) r (now (out .exit)) ⌝ }
 {
     answers::number(sha2::hash::hash(edition, message, closing, bits, out))
 }
 
 #[no_mangle]
 pub extern "C" fn dw_lay_out(table: &mut [u64], bays: u64) -> u64
-    ensures { λ r. ⌜ r ≡ first (tests (now (table .entry)) (Call.layOut bays)) ⌝ }
-    ensures { λ r.
-        ⌜ lent (now (table .exit)) [] ≡ after (first (tests (now (table .entry)) (Call.layOut bays)))
-        (lent (now (table .entry)) []) (leaves (now (table .entry)) (Call.layOut bays)) ⌝ }
+    ensures { λ r. ⌜ Outcome (now (table .entry)) (Call.layOut bays) r (now (table .exit)) [] ⌝ }
 {
     answers::number(bays::calls::lay_out(table, bays))
 }
 
 #[no_mangle]
 pub extern "C" fn dw_open(table: &mut [u64], bay: u64, edition: u64) -> u64
-    ensures { λ r. ⌜ r ≡ first (tests (now (table .entry)) (Call.opening bay edition)) ⌝ }
-    ensures { λ r.
-        ⌜ lent (now (table .exit)) [] ≡ after (first (tests (now (table .entry)) (Call.opening bay edition)))
-        (lent (now (table .entry)) []) (leaves (now (table .entry)) (Call.opening bay edition)) ⌝ }
+    ensures { λ r. ⌜ Outcome (now (table .entry)) (Call.opening bay edition) r (now (table .exit)) [] ⌝ }
 {
     answers::number(bays::calls::open(table, bay, edition))
 }
 
 #[no_mangle]
 pub extern "C" fn dw_add(table: &mut [u64], bay: u64, piece: &[u8]) -> u64
-    ensures { λ r. ⌜ r ≡ first (tests (now (table .entry)) (Call.adding bay (now (piece .entry)))) ⌝ }
-    ensures { λ r.
-        ⌜ lent (now (table .exit)) [] ≡ after (first (tests (now (table .entry)) (Call.adding bay (now (piece .entry)))))
-        (lent (now (table .entry)) []) (leaves (now (table .entry)) (Call.adding bay (now (piece .entry)))) ⌝ }
+    ensures { λ r. ⌜ Outcome (now (table .entry)) (Call.adding bay (now (piece .entry))) r (now (table .exit)) [] ⌝ }
 {
     answers::number(bays::calls::add(table, bay, piece))
 }
@@ -64,54 +52,38 @@ pub extern "C" fn dw_close(
     bits: u64,
     out: &mut [u8],
 ) -> u64
-    ensures { λ r. ⌜ r ≡ first (tests (now (table .entry)) (Call.closing bay closing bits (now (out .entry)))) ⌝ }
     ensures { λ r.
-        ⌜ lent (now (table .exit)) (now (out .exit)) ≡ after (first (tests (now (table .entry)) (Call.closing bay closing bits (now (out .entry)))))
-        (lent (now (table .entry)) (now (out .entry))) (leaves (now (table .entry)) (Call.closing bay closing bits (now (out .entry)))) ⌝ }
+        ⌜ Outcome (now (table .entry)) (Call.closing bay closing bits (now (out .entry))) r (now (table .exit)) (now (out .exit)) ⌝ }
 {
     answers::number(bays::calls::close(table, bay, closing, bits, out))
 }
 
 #[no_mangle]
 pub extern "C" fn dw_save(table: &[u64], bay: u64, out: &mut [u8]) -> u64
-    ensures { λ r. ⌜ r ≡ first (tests (now (table .entry)) (Call.saving bay (now (out .entry)))) ⌝ }
     ensures { λ r.
-        ⌜ lent (now (table .exit)) (now (out .exit)) ≡ after (first (tests (now (table .entry)) (Call.saving bay (now (out .entry)))))
-        (lent (now (table .entry)) (now (out .entry))) (leaves (now (table .entry)) (Call.saving bay (now (out .entry)))) ⌝ }
+        ⌜ Outcome (now (table .entry)) (Call.saving bay (now (out .entry))) r (now (table .exit)) (now (out .exit)) ⌝ }
 {
     answers::number(bays::calls::save(table, bay, out))
 }
 
 #[no_mangle]
 pub extern "C" fn dw_load(table: &mut [u64], bay: u64, record: &[u8]) -> u64
-    ensures { λ r. ⌜ r ≡ first (tests (now (table .entry)) (Call.loading bay (now («record» .entry)))) ⌝ }
-    ensures { λ r.
-        ⌜ lent (now (table .exit)) [] ≡ after (first (tests (now (table .entry)) (Call.loading bay (now («record» .entry)))))
-        (lent (now (table .entry)) []) (leaves (now (table .entry)) (Call.loading bay (now («record» .entry)))) ⌝ }
+    ensures { λ r. ⌜ Outcome (now (table .entry)) (Call.loading bay (now («record» .entry))) r (now (table .exit)) [] ⌝ }
 {
     answers::number(bays::calls::load(table, bay, record))
 }
 
 #[no_mangle]
 pub extern "C" fn dw_drop(table: &mut [u64], bay: u64) -> u64
-    ensures { λ r. ⌜ r ≡ first (tests (now (table .entry)) (Call.dropping bay)) ⌝ }
-    ensures { λ r.
-        ⌜ lent (now (table .exit)) [] ≡ after (first (tests (now (table .entry)) (Call.dropping bay)))
-        (lent (now (table .entry)) []) (leaves (now (table .entry)) (Call.dropping bay)) ⌝ }
+    ensures { λ r. ⌜ Outcome (now (table .entry)) (Call.dropping bay) r (now (table .exit)) [] ⌝ }
 {
     answers::number(bays::calls::drop(table, bay))
 }
 
-// Edition and count are written in every case: both 0 for an empty bay and where the call is refused.
+// Edition and count are always written: 0 and 0 where the call is refused or nothing is in the bay.
 #[no_mangle]
 pub extern "C" fn dw_ask(table: &[u64], bay: u64, edition: &mut u64, count: &mut u64) -> u64
-    ensures { λ r. ⌜ r ≡ first (tests (now (table .entry)) (Call.asking bay)) ⌝ }
-    ensures { λ r.
-        ⌜ now (edition .exit) ≡ after (first (tests (now (table .entry)) (Call.asking bay))) 0
-        (toldEdition (now (table .entry)) (Call.asking bay)) ⌝ }
-    ensures { λ r.
-        ⌜ now (count .exit) ≡ after (first (tests (now (table .entry)) (Call.asking bay))) 0
-        (toldCount (now (table .entry)) (Call.asking bay)) ⌝ }
+    ensures { λ r. ⌜ Asks (now (table .entry)) bay r (told (now (edition .exit)) (now (count .exit))) ⌝ }
 {
     let asked = bays::calls::ask(table, bay);
     let answer = asked.answer;
@@ -122,10 +94,7 @@ pub extern "C" fn dw_ask(table: &[u64], bay: u64, edition: &mut u64, count: &mut
 
 #[no_mangle]
 pub extern "C" fn dw_tree(map: &[u8], out: &mut [u8]) -> u64
-    ensures { λ r. ⌜ r ≡ first (treeTests (now (map .entry)) (now (out .entry))) ⌝ }
-    ensures { λ r.
-        ⌜ now (out .exit) ≡ after (first (treeTests (now (map .entry)) (now (out .entry)))) (now (out .entry))
-        (rooted (now (map .entry)) (now (out .entry))) ⌝ }
+    ensures { λ r. ⌜ Trees (now (map .entry)) (now (out .entry)) r (now (out .exit)) ⌝ }
 {
     answers::number(tree::whole::tree(map, out))
 }

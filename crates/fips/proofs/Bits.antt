@@ -1,21 +1,22 @@
 -- Bits, numbers and bytes: laws of specs/Bits.antt. Main: `value-bits` and `bits-value` (the two are inverse), `bitsOf-be` (the bits of a
--- number's bytes are its bits), `value-bitsOf` (the number of bytes is the number of their bits), `pieces-bitsOf` (a piece by bytes is one by bits).
-use Prim.Native.Nat.{ℕ, zero, suc, _+_, _-_, _*_, _/_, _%_, _^_, _≤_, _<_}
+-- number's bytes are its bits), `value-bitsOf` (bytes make the number of their bits), `pieces-bitsOf` (a piece by bytes is one by bits).
+use Prim.Native.Nat.{ℕ, zero, suc, _+_, _-_, _*_, _/_, _%_, _^_, _<_}
 use mathlib.Core.Bool.{Bool, true, false}
-use mathlib.Core.List.{List, [], _∷_, _++_, map, append-assoc, append-nil}
+use mathlib.Core.List.{List, [], _∷_, _++_, map, append-assoc}
 use mathlib.Core.Path.{_≡_, refl, sym, ap, ap₂, _∙_}
-use native.Mathlib.Nat.{mod-one, mod-lt, zero-add, suc-add, add-comm, add-assoc, mul-suc, mul-zero, pow-suc, pow-succ', pow-zero, mul-one}
+use native.Mathlib.Nat.{mod-one, mod-lt, zero-add, suc-add, add-comm, add-assoc, mul-suc, pow-suc, pow-succ'}
 use native.Mathlib.Nat.{mod-eq-of-lt, lt-suc-self, mod-mod, mod-self, div-self, zero-div, zero-mod, add-mul, mul-assoc, zero-mul}
 use native.Mathlib.Numerals.{one-add}
 use native.Mathlib.Omega.{arith}
 use lib.Arith.{digits-lt}
 use lib.Dec.{eqb}
-use lib.ListN.{length, take, drop, replicate, length-append, replicate-append-replicate, getD}
+use lib.ListN.{length, take, drop, replicate, length-append, replicate-append-replicate}
 use lib.Pow.{pow-pos, pow-add, mod-pow-add, mod-mod-pow, field, shr-shr, high, low, pow-lt}
 use lib.Seq.{take-append-add, drop-append-add, take-at, take-nil, drop-nil}
-use Rattle.bigendian.specs.BigEndian.{be, number, Bytes}
+use Rattle.bigendian.specs.BigEndian.{be, number}
+use Rattle.slices.specs.Below.{Bytes}
 use Rattle.bigendian.specs.Words.{toWords}
-use Rattle.bigendian.proofs.Below.{below-take, below-drop}
+use Rattle.slices.proofs.Below.{below-take, below-drop}
 use Rattle.fips.specs.Bits.{bits, digit, value, bitsOf, pieces}
 
 pub length-bits : (k x : ℕ) → length (bits k x) ≡ k
@@ -169,7 +170,8 @@ unfolding bitsOf bits
 take-bitsOf zero xs = refl
 take-bitsOf (suc n) [] = take-nil (8 * suc n)
 take-bitsOf (suc n) (x ∷ xs) =
-    rw (mul-suc 8 n, add-comm (8 * n) 8) (take-append-add (bits 8 x) (bitsOf xs) (8 * n) ∙ ap (λ (l : List Bool). bits 8 x ++ l) (take-bitsOf n xs))
+    rw (mul-suc 8 n, add-comm (8 * n) 8)
+    (take-append-add (bits 8 x) (bitsOf xs) (8 * n) ∙ ap (λ (l : List Bool). bits 8 x ++ l) (take-bitsOf n xs))
 
 pub drop-bitsOf : (n : ℕ) (xs : List ℕ) → drop (8 * n) (bitsOf xs) ≡ bitsOf (drop n xs)
 unfolding bitsOf bits

@@ -1,23 +1,25 @@
--- The byte form is the bit form: document 01 "Padding". Main: `digest-bytes`, for every list of bytes, closing byte and count of closing bits.
+-- The byte form is the bit form: SPEC, "Padding". Main: `digest-bytes`, for every list of bytes, closing byte and count of closing bits.
 use Prim.Native.Nat.{ℕ, zero, suc, _+_, _-_, _*_, _/_, _%_, _^_, _≤_, _<_}
 use mathlib.Core.Bool.{Bool, true, false}
-use mathlib.Core.List.{List, [], _∷_, _++_, map, append-assoc}
+use mathlib.Core.List.{List, _∷_, _++_, map, append-assoc}
 use mathlib.Core.Path.{_≡_, refl, sym, ap, ap₂, subst, _∙_}
 use native.Mathlib.Nat.{mul-div-mul-left, mul-div-cancel, mul-mod-left, mul-comm, mod-eq-of-lt, le-of-lt, lt-suc-self}
 use native.Mathlib.Omega.{arith}
 use lib.Arith.{digits-lt, mod-mul}
-use lib.ListN.{length, take, drop, replicate, length-append, length-take, length-replicate, replicate-append-replicate}
+use lib.ListN.{length, take, drop, replicate, length-append, length-take, replicate-append-replicate}
 use lib.Pow.{pow-add, pow-lt, shr-lt}
-use Rattle.bigendian.specs.BigEndian.{be, Bytes}
+use Rattle.bigendian.specs.BigEndian.{be}
+use Rattle.slices.specs.Below.{Bytes}
 use Rattle.bigendian.specs.Words.{toWords, fromWords}
-use Rattle.bigendian.proofs.Below.{below-take, below-drop, below-append, below-cons, below-replicate}
+use Rattle.slices.proofs.Below.{below-take, below-drop, below-append, below-cons, below-replicate}
 use Rattle.bigendian.proofs.BigEndian.{be-bytes}
 use Rattle.fips.specs.Bits.{bits, value, bitsOf, pieces}
-use Rattle.fips.specs.Words.{Width, word}
+use Rattle.fips.specs.Words.{Width, word, blockBytes}
 use Rattle.fips.specs.Padding.{zeros, pad, parse}
 use Rattle.fips.specs.Constants.{chain, hashFrom}
 use Rattle.fips.specs.Editions.{width, digestBytes, start, digest}
-use Rattle.fips.specs.ByteForm.{message, closed, blockBytes, ending, parseBytes, hashBytes, digestOfBytes}
+use Rattle.fips.specs.Message.{message}
+use Rattle.fips.specs.code.ByteForm.{closingByte, ending, parseBytes, hashBytes, digestOfBytes}
 use Rattle.fips.proofs.Bits.{length-bits, length-bitsOf, bitsOf-append, bitsOf-zeros, bitsOf-be, bits-closed, take-bitsOf}
 use Rattle.fips.proofs.Bits.{drop-bitsOf, words-bitsOf}
 use Rattle.fips.proofs.Editions.{width-some}
@@ -40,14 +42,14 @@ module _ (b : ℕ) (h : b < 8) where
   below : 8 - b ≡ suc (7 - b)
   below = omega arith
 
-  bits-closing : (x : ℕ) → bits 8 (closed x b) ≡ take b (bits 8 x) ++ (true ∷ replicate (7 - b) false)
+  bits-closing : (x : ℕ) → bits 8 (closingByte x b) ≡ take b (bits 8 x) ++ (true ∷ replicate (7 - b) false)
   bits-closing x =
       let k = 7 - b in
       rw below
       (subst (λ (n : ℕ). bits n (x / 2 ^ suc k * 2 ^ suc k + 2 ^ k) ≡ take b (bits n x) ++ (true ∷ replicate k false)) eight
       (bits-closed b k x))
 
-  pub closed-lt : (x : ℕ) → x < 256 → closed x b < 256
+  pub closed-lt : (x : ℕ) → x < 256 → closingByte x b < 256
   closed-lt x small =
       let k = 7 - b in
       let q : x / 2 ^ suc k < 2 ^ b = shr-lt b (suc k) (subst (λ (n : ℕ). x < 2 ^ n) (sym eight) small) in
@@ -88,7 +90,7 @@ pad-bytes p some bytes x b h =
     let c = length bytes in
     let z = zeros (p .bytes) c in
     let l = 8 * c + b in
-    let closing = closed x b ∷ replicate z 0 in
+    let closing = closingByte x b ∷ replicate z 0 in
     let long = length-message bytes x b (le-of-lt h) in
     let count : zeros (word p) (length (message bytes x b)) ≡ 7 - b + 8 * z =
     ap (zeros (word p)) long ∙ zeros-bytes (p .bytes) c b some h
@@ -136,7 +138,7 @@ unfolding ending
 ending-bytes p c x b small h =
     let z = zeros (p .bytes) c in
     let l = 8 * c + b in
-    below-append (closed x b ∷ replicate z 0) (be (2 * p .bytes) l)
+    below-append (closingByte x b ∷ replicate z 0) (be (2 * p .bytes) l)
     (below-cons (replicate z 0) (closed-lt b h x small) (below-replicate z (omega arith)))
     (be-bytes (2 * p .bytes) l)
 

@@ -1,6 +1,6 @@
--- Which numbers name an edition, what stands at the others, and what the lookup answers: laws of specs/Editions.antt and specs/Sizes.antt.
+-- Which numbers name an edition, and what stands at the others: laws of specs/Editions.antt.
 use Prim.Native.Nat.{ℕ, zero, suc, _+_, _-_, _*_, _<_, _≤_}
-use mathlib.Core.Bool.{Bool, true, false, _&&_, cond, false≢true}
+use mathlib.Core.Bool.{Bool, true, false, _&&_, false≢true}
 use mathlib.Core.List.{List, [], _∷_, map}
 use mathlib.Core.Logic.{_⊎_, inl, inr, ⊎-elim}
 use mathlib.Core.Path.{_≡_, refl, sym, ap, _∙_}
@@ -8,14 +8,11 @@ use native.Mathlib.Decide.{decLe}
 use native.Mathlib.Nat.{not-suc-le-zero, le-of-suc-le-suc, lt-of-not-le}
 use native.Mathlib.Omega.{arith}
 use lib.Dec.{ltb}
-use lib.ListN.{length, getD, drop, length-map, length-drop, List·getD-map, List·getD-eq-default}
+use lib.ListN.{length, getD, drop, length-map, List·getD-map, List·getD-eq-default}
 use lib.Seq.{getD-drop}
-use borrow.Author.Tests.{lt-ltb, le-ltb, ltb-true}
-use Rattle.fips.specs.declared.EditionSizes.{EditionSizes}
-use Rattle.fips.specs.Words.{Width, w32, w64, word}
-use Rattle.fips.specs.Editions.{Edition, none, editions, edition, known, width, digestBytes, start, startRows}
-use Rattle.fips.specs.ByteForm.{blockBytes}
-use Rattle.fips.specs.Sizes.{sizesOf}
+use borrow.Author.Tests.{lt-ltb, ltb-true}
+use Rattle.fips.specs.Words.{Width, w32, w64}
+use Rattle.fips.specs.Editions.{Edition, noEdition, editions, edition, known, width, digestBytes, start, startRows}
 
 -- a place inside a list does not show what stands for those outside
 pub getD-inside {ℓ} : {A : Type ℓ} (l : List A) (i : ℕ) (d d′ : A) → i < length l → getD l i d ≡ getD l i d′
@@ -37,9 +34,9 @@ within-known e p =
     let t = both (ltb 0 e) (ltb e 7) p in
     (ltb-true 0 e (t .0), omega (arith, ltb-true e 7 (t .1)))
 
-pub unknown-none : (e : ℕ) → 6 < e → edition e ≡ none
+pub unknown-none : (e : ℕ) → 6 < e → edition e ≡ noEdition
 unfolding edition editions
-unknown-none e h = List·getD-eq-default editions none h
+unknown-none e h = List·getD-eq-default editions noEdition h
 
 pub unknown : (e : ℕ) → ((e ≡ 1) → ⊥) → ((e ≡ 2) → ⊥) → ((e ≡ 3) → ⊥) → ((e ≡ 4) → ⊥) → ((e ≡ 5) → ⊥) → ((e ≡ 6) → ⊥) → known e ≡ false
 unknown e n1 n2 n3 n4 n5 n6 = go (known e) refl
@@ -80,56 +77,32 @@ digest-within (suc (suc (suc (suc (suc (suc zero)))))) = omega arith
 digest-within (suc (suc (suc (suc (suc (suc (suc e))))))) = omega arith
 
 -- the row of an edition
-row-of : (l : List Edition) (e : ℕ) → 0 < e → e < length l → getD (map (λ x. x .start) (drop 1 l)) (e - 1) [] ≡ getD l e none .start
+row-of : (l : List Edition) (e : ℕ) → 0 < e → e < length l → getD (map (λ x. x .start) (drop 1 l)) (e - 1) [] ≡ getD l e noEdition .start
 row-of [] e h k = absurd (not-suc-le-zero k)
 row-of (x ∷ l) zero h k = absurd (not-suc-le-zero h)
 row-of (x ∷ l) (suc e) h k =
     let f : Edition → List ℕ = λ y. y .start in
     let back : suc e - 1 ≡ e = omega arith in
     rw back
-    (getD-inside (map f l) e [] (f none) (rw (length-map l f) (le-of-suc-le-suc k)) ∙ List·getD-map f l e none)
+    (getD-inside (map f l) e [] (f noEdition) (rw (length-map l f) (le-of-suc-le-suc k)) ∙ List·getD-map f l e noEdition)
 
 pub start-row : (e : ℕ) → 0 < e → e ≤ 6 → getD startRows (e - 1) [] ≡ start e
 unfolding startRows edition editions
 start-row e h k = row-of editions e h (omega arith)
 
 -- a number that names no edition has the empty one
-pub edition-none : (e : ℕ) → known e ≡ false → edition e ≡ none
+pub edition-none : (e : ℕ) → known e ≡ false → edition e ≡ noEdition
 unfolding edition editions
 edition-none e p = go (decLe 1 e) (decLe e 6)
   where
-    go : Dec (1 ≤ e) → Dec (e ≤ 6) → edition e ≡ none
+    go : Dec (1 ≤ e) → Dec (e ≤ 6) → edition e ≡ noEdition
     go (yes h) (yes k) = absurd (false≢true (sym p ∙ known-within e h k))
     go (yes h) (no k) = unknown-none e (lt-of-not-le k)
     go (no h) d =
         let z : e ≡ 0 = omega arith in
         rw z
 
--- ---- the lookup
-
--- what the lookup says of an edition, and that it refuses the others
-pub sizes-known : (e w b d : ℕ) → sizesOf e ≡ EditionSizes.Known w b d →
-    (known e ≡ true) × (w ≡ word (width e)) × (b ≡ blockBytes (width e)) × (d ≡ digestBytes e)
-unfolding sizesOf
-sizes-known e w b d p = go (known e) refl p
-  where
-    go : (k : Bool) → known e ≡ k →
-        cond k (EditionSizes.Known (word (width e)) (blockBytes (width e)) (digestBytes e)) EditionSizes.Unknown ≡ EditionSizes.Known w b d →
-        (known e ≡ true) × (w ≡ word (width e)) × (b ≡ blockBytes (width e)) × (d ≡ digestBytes e)
-    go true q r = (q, (cc), (cc), (cc))
-    go false q r = let z : _≡_ {A = ℕ} 0 1 = cc in absurd (omega arith)
-
-pub sizes-unknown : (e : ℕ) → sizesOf e ≡ EditionSizes.Unknown → known e ≡ false
-unfolding sizesOf
-sizes-unknown e p = go (known e) refl p
-  where
-    go : (k : Bool) → known e ≡ k →
-        cond k (EditionSizes.Known (word (width e)) (blockBytes (width e)) (digestBytes e)) EditionSizes.Unknown ≡ EditionSizes.Unknown →
-        known e ≡ false
-    go true q r = let z : _≡_ {A = ℕ} 0 1 = cc in absurd (omega arith)
-    go false q r = q
-
--- and the longest digest has 64 bytes
+-- no digest has more than 64 bytes
 pub digest-short : (e : ℕ) → digestBytes e ≤ 64
 digest-short e =
     ⊎-elim (λ (q : width e ≡ w32). omega (arith, digest-within e, ap (λ (w : Width). w .bytes) q))
@@ -143,7 +116,7 @@ unfoldable some-digest : (l : List Edition) → Bool
 some-digest [] = true
 some-digest (x ∷ l) = ltb 0 (x .digestBytes) && some-digest l
 
-some-at : (l : List Edition) (i : ℕ) → some-digest l ≡ true → i < length l → 0 < getD l i none .digestBytes
+some-at : (l : List Edition) (i : ℕ) → some-digest l ≡ true → i < length l → 0 < getD l i noEdition .digestBytes
 unfolding some-digest
 some-at [] i t h = absurd (not-suc-le-zero h)
 some-at (x ∷ l) zero t h = ltb-true 0 (x .digestBytes) (both (ltb 0 (x .digestBytes)) (some-digest l) t .0)
@@ -154,4 +127,4 @@ unfolding edition editions some-digest
 digest-some e p =
     let w = within-known e p in
     let back : 1 + (e - 1) ≡ e = omega arith in
-    rw (← back) (rw (getD-drop 1 editions (e - 1) none) at (some-at (drop 1 editions) (e - 1) refl (omega arith)))
+    rw (← back) (rw (getD-drop 1 editions (e - 1) noEdition) at (some-at (drop 1 editions) (e - 1) refl (omega arith)))

@@ -8,4 +8,5 @@ pub mod Chain
 pub mod Rules
 pub mod Editions
 pub mod Digest
-pub mod Outcomes
+pub mod Sizes
+pub mod Settled

@@ -1,7 +1,7 @@
 -- The zero bits are the fewest, `pad-fewest`, and a padded message is whole blocks, `pad-whole`: FIPS 180-4 §5.1.
 -- `zeros-of`: whatever count reaches 14 words modulo 16 is that count modulo 16 words.
-use Prim.Native.Nat.{ℕ, suc, _+_, _-_, _*_, _/_, _%_, _≤_, _<_}
-use mathlib.Core.Path.{_≡_, refl, sym, ap, ap₂, _∙_}
+use Prim.Native.Nat.{ℕ, suc, _+_, _-_, _*_, _%_, _≤_, _<_}
+use mathlib.Core.Path.{_≡_, sym, ap, ap₂, _∙_}
 use native.Mathlib.Nat.{mod-lt, mod-le, mod-add-mod, add-mod-mod, add-mod-right, mod-eq-of-lt, le-trans, le-of-eq, mod-self, add-assoc}
 use native.Mathlib.Nat.{mul-add-mod-self-right}
 use native.Mathlib.Omega.{arith}

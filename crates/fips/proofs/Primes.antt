@@ -1,4 +1,4 @@
--- The primes in order: document 01, "Constants, by rule". `isPrime` tests for a prime, and `primesBelow n` has the primes below n in order;
+-- The primes in order: SPEC, "Constants, by rule". `isPrime` tests for a prime, and `primesBelow n` has the primes below n in order;
 -- so `prime-at`: the entry at each place of `primes` is the prime of that place, and `place-unique`: there is no other.
 use mathlib.Core.Path.{_≡_, refl, sym, _∙_}
 use mathlib.Core.Bool.{Bool, true, false, _&&_, _||_, not, cond, and-eq-true-iff, true≢false}
@@ -210,7 +210,7 @@ pub prime-at : (i : ℕ) → i < 80 → PrimeAt i (getD primes i 0)
 unfolding primes
 prime-at i h = entry-place 410 primes (primesBelow-in-order 410) i (rw length-primes h)
 
--- ---- document 01: the 8th is 19, the 16th 53, the 64th 311, the 80th 409
+-- ---- the four primes that SPEC, "Constants, by rule", names by their places
 
 abbrev pub Named : List (ℕ × ℕ) → Type 0
 Named [] = Unit

@@ -1,4 +1,4 @@
--- Roots and root words: document 01, "Constants, by rule". For every exponent, width and number, `rootWord-rule` says that `rootWord`
+-- Roots and root words: SPEC, "Constants, by rule". For every exponent, width and number, `rootWord-rule` says that `rootWord`
 -- meets its rule, `rootWord-unique` that no other word does, `rootWord-upper` that a word of fewer bits is the upper part of a longer one.
 use mathlib.Core.Path.{_≡_, refl, sym, ap, _∙_}
 use mathlib.Core.Bool.{Bool, true, false, cond}
@@ -33,7 +33,7 @@ lt-two-pow : (n : ℕ) → n < 2 ^ n
 lt-two-pow zero = omega arith
 lt-two-pow (suc n) = rw two-pow-succ (omega (arith, lt-two-pow n))
 
--- ---- the one whole number
+-- ---- the whole root
 
 root-le : (e x n m : ℕ) → IsRoot e x n → IsRoot e x m → n ≤ m
 root-le e x n m r s =

@@ -4,15 +4,14 @@ use Prim.Native.Nat.{ℕ, _+_, _-_, _*_, _/_, _%_, _^_, _≤_, _<_}
 use mathlib.Core.Bool.{Bool}
 use mathlib.Core.List.{List, _++_}
 use mathlib.Core.Path.{_≡_, sym, ap, ap₂, subst, _∙_}
-use native.Mathlib.Nat.{add-sub-of-le, mul-mod-left, add-comm, add-zero, mod-lt}
+use native.Mathlib.Nat.{add-sub-of-le, mul-mod-left, add-comm, add-zero}
 use lib.Bits.{bitOr, or-shifted-r}
 use lib.ListN.{take, drop}
-use lib.Pow.{mod-pow-add, shl-shr, shr-lt, high, low, pow-pos}
+use lib.Pow.{mod-pow-add, shl-shr, shr-lt, high, low}
 use lib.Seq.{take-at, drop-at}
-use native.Mathlib.Omega.{arith}
 use Rattle.fips.specs.Bits.{bits}
 use Rattle.fips.specs.Words.{Width, word, rotr}
-use Rattle.fips.proofs.Bits.{bits-append, bits-low, bits-mod, length-bits, take-bits}
+use Rattle.fips.proofs.Bits.{bits-append, bits-low, bits-mod, length-bits}
 
 module _ (n m x : ℕ) (fits : x < 2 ^ (n + m)) where
   upper : x / 2 ^ n < 2 ^ m

@@ -1,4 +1,4 @@
--- The constants meet their rules: document 01, "Constants, by rule". `rootTable-rule` is the one law, over the exponent, the width and the
+-- The constants meet their rules: SPEC, "Constants, by rule". `rootTable-rule` is the one law, over the exponent, the width and the
 -- primes taken; so `round32-rule`, `round64-rule`, `round-halves` and `start-rule`. `roundWords-lt` and `start-lt`: each word is below 2^w.
 use mathlib.Core.Path.{_≡_, refl, sym, ap, _∙_}
 use mathlib.Core.List.{List, [], _∷_, map}
@@ -17,7 +17,7 @@ use Rattle.fips.specs.Words.{Width, w32, w64, word}
 use Rattle.fips.specs.Primes.{primes}
 use Rattle.fips.specs.Roots.{rootWord}
 use Rattle.fips.specs.Constants.{roundWords, start224, start256, start384, start512, ascii, generated}
-use Rattle.fips.specs.Editions.{Edition, none, editions, edition, width, start}
+use Rattle.fips.specs.Editions.{Edition, noEdition, editions, edition, width, start}
 use Rattle.fips.specs.Rules.{PrimeWord, RootTable, StartRule}
 use Rattle.fips.proofs.Primes.{length-primes, prime-at, place-unique}
 use Rattle.fips.proofs.Chain.{EightWords, hashFrom-eight}
@@ -89,7 +89,7 @@ round32-rule = round-rule w32 (omega arith)
 pub round64-rule : RootTable 3 64 0 80 (roundWords w64)
 round64-rule = round-rule w64 (omega arith)
 
--- each 32-bit one is the upper half of the 64-bit one at its place
+-- a round constant of 64 bits, cut to its upper half, is that of 32
 pub round-halves : (i : ℕ) → i < 64 → getD (roundWords w32) i 0 ≡ getD (roundWords w64) i 0 / 2 ^ 32
 round-halves i h =
     roundWords-at w32 (omega arith) i h
@@ -149,7 +149,7 @@ abbrev Each : (Edition → Type 0) → List Edition → Type 0
 Each P [] = Unit
 Each P (x ∷ xs) = P x × Each P xs
 
-each-at : (P : Edition → Type 0) (xs : List Edition) → Each P xs → P none → (e : ℕ) → P (getD xs e none)
+each-at : (P : Edition → Type 0) (xs : List Edition) → Each P xs → P noEdition → (e : ℕ) → P (getD xs e noEdition)
 each-at P [] h d e = d
 each-at P (x ∷ xs) h d zero = h .0
 each-at P (x ∷ xs) h d (suc e) = each-at P xs (h .1) d e

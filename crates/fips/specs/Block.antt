@@ -1,4 +1,4 @@
--- One block: FIPS 180-4 §6.2.2 and §6.4.2, document 01 "One block". The chaining words H are a list of eight, and so are the letters
+-- One block: FIPS 180-4 §6.2.2 and §6.4.2, SPEC, "One block". The chaining words H are a list of eight, and so are the letters
 -- a to h; a block m is a list of sixteen words, W the schedule, K the round constants.
 use Prim.Native.Nat.{ℕ, zero, suc, _-_}
 use mathlib.Core.Bool.{cond}

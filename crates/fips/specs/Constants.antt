@@ -1,4 +1,4 @@
--- The constants, each by its rule: FIPS 180-4 §4.2 and §5.3, document 01 "Constants, by rule". No number of a table stands here.
+-- The constants, each by its rule: FIPS 180-4 §4.2 and §5.3, SPEC, "Constants, by rule". No number of a table stands here.
 use Prim.Native.Nat.{ℕ, _%_, _^_}
 use Prim.Native.Char.{code}
 use Prim.Native.String.{String}
@@ -13,7 +13,7 @@ use Rattle.fips.specs.Padding.{pad, parse}
 use Rattle.fips.specs.Primes.{primes}
 use Rattle.fips.specs.Roots.{rootWord}
 
--- §4.2.2 and §4.2.3: the cube-root words of the first 64 or 80 primes
+-- §4.2.2 and §4.2.3: a cube-root word for each round, from the first prime on
 unfoldable pub roundWords : Width → List ℕ
 roundWords p = map (rootWord 3 (word p)) (take (p .rounds) primes)
 
@@ -24,23 +24,23 @@ chain p H ms = blocks p (roundWords p) H ms
 unfoldable pub hashFrom : Width → List ℕ → List Bool → List ℕ
 hashFrom p H m = chain p H (parse p (pad p m))
 
--- square-root words of eight primes
+-- square-root words of the first eight of the primes given
 abbrev pub rootStart : Width → List ℕ → List ℕ
 rootStart p ps = map (rootWord 2 (word p)) (take 8 ps)
 
--- §5.3.3: of primes 1 to 8, in 32 bits
+-- §5.3.3: SHA-256 takes the first primes
 unfoldable pub start256 : List ℕ
 start256 = rootStart w32 primes
 
--- §5.3.4: of primes 9 to 16, in 64 bits
+-- §5.3.4: SHA-384 leaves out eight, and takes the next
 unfoldable pub start384 : List ℕ
 start384 = rootStart w64 (drop 8 primes)
 
--- §5.3.5: of primes 1 to 8, in 64 bits
+-- §5.3.5: SHA-512 takes those of SHA-256, and more bits
 unfoldable pub start512 : List ℕ
 start512 = rootStart w64 primes
 
--- §5.3.2: the lower halves of SHA-384's
+-- §5.3.2: SHA-224 cuts SHA-384's words to their last 32 bits
 unfoldable pub start224 : List ℕ
 start224 = map (λ x. x % 2 ^ 32) start384
 
@@ -49,7 +49,7 @@ unfoldable pub ascii : String → List ℕ
 ascii String.[] = []
 ascii (String._∷_ c s) = code c ∷ ascii s
 
--- §5.3.6: the words of SHA-512's hash of the text, begun from H's words each XORed with a5a5a5a5a5a5a5a5; H are its starting words
+-- §5.3.6: the last words of the text, hashed by SHA-512's rules; its starting words H are first XORed with a5 in each byte
 abbrev pub seeded : List ℕ → String → List ℕ
 seeded H text = hashFrom w64 (map (bitXor 0xa5a5a5a5a5a5a5a5) H) (bitsOf (ascii text))
 

@@ -1,4 +1,4 @@
--- The six editions, document 01 "Editions", and the digest of a list of bits: FIPS 180-4 §6.2 to §6.7.
+-- The six editions, SPEC, "Editions", and the digest of a list of bits: FIPS 180-4 §6.2 to §6.7.
 use Prim.Native.Nat.{ℕ}
 use mathlib.Core.Bool.{Bool, _&&_}
 use mathlib.Core.List.{List, [], _∷_, map}
@@ -18,13 +18,13 @@ abbrev pub sha : Width → ℕ → List ℕ → Edition
 sha p d H = record { width = p; digestBytes = d; start = H }
 
 -- what stands at a number that names no edition: a digest of no bytes
-abbrev pub none : Edition
-none = sha w64 0 (replicate 8 0)
+abbrev pub noEdition : Edition
+noEdition = sha w64 0 (replicate 8 0)
 
--- document 01's table, each edition at its number
+-- the rows of that table, each at its number
 unfoldable pub editions : List Edition
 editions =
-    none
+    noEdition
     ∷ sha w32 28 start224
     ∷ sha w32 32 start256
     ∷ sha w64 48 start384
@@ -34,7 +34,7 @@ editions =
     ∷ []
 
 unfoldable pub edition : ℕ → Edition
-edition e = getD editions e none
+edition e = getD editions e noEdition
 
 -- the numbers that name an edition
 unfoldable pub known : ℕ → Bool
@@ -53,6 +53,6 @@ start e = edition e .start
 unfoldable pub startRows : List (List ℕ)
 startRows = map (λ e. e .start) (drop 1 editions)
 
--- the digest: the leftmost bytes of the last chaining words
+-- the digest: from the bytes of the last chaining words, as many as the edition has
 unfoldable pub digest : ℕ → List Bool → List ℕ
 digest e m = take (digestBytes e) (fromWords (width e .bytes) (hashFrom (width e) (start e) m))

@@ -7,6 +7,7 @@ pub mod Block
 pub mod Padding
 pub mod Constants
 pub mod Editions
+pub mod Message
 pub mod Rules
-pub mod ByteForm
 pub mod Sizes
+pub mod code

@@ -1,4 +1,4 @@
--- The primes in order: document 01, "Constants, by rule". `Prime` is the definition of a prime, `primesBelow n` computes them.
+-- The primes in order: SPEC, "Constants, by rule". `Prime` is the definition of a prime, `primesBelow n` computes them.
 use Prim.Native.Nat.{ℕ, zero, suc, _%_, _<_}
 use mathlib.Core.Bool.{Bool, true, _&&_, _||_, not, cond}
 use mathlib.Core.List.{List, [], _∷_, _++_}
@@ -39,6 +39,6 @@ unfoldable pub primesBelow : ℕ → List ℕ
 primesBelow zero = []
 primesBelow (suc n) = primesBelow n ++ cond (isPrime n) (n ∷ []) []
 
--- the first eighty: the 80th is 409
+-- the first eighty, of which 409 is the last
 unfoldable pub primes : List ℕ
 primes = primesBelow 410

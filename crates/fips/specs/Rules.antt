@@ -1,4 +1,4 @@
--- The constants' rules as statements about a table: document 01, "Constants, by rule". `RootTable` is the rule of the round constants
+-- The constants' rules as statements about a table: SPEC, "Constants, by rule". `RootTable` is the rule of the round constants
 -- and of three rows of starting words, `StartRule` of all six rows. The laws `round32-rule`, `round64-rule` and `start-rule` say them.
 use Prim.Native.Nat.{ℕ, _+_, _%_, _^_, _<_}
 use mathlib.Core.List.{List, map}

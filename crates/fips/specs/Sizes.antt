@@ -1,11 +1,19 @@
--- What the edition lookup answers: document 01 "Editions", the sizes of an edition or that there is none.
+-- What the edition lookup answers: SPEC, "Editions": the sizes of an edition or that there is none.
 use Prim.Native.Nat.{ℕ}
-use mathlib.Core.Bool.{cond}
-use Rattle.fips.specs.declared.EditionSizes.{EditionSizes}
-use Rattle.fips.specs.declared.EditionSizes.the-variants.{Known, Unknown}
-use Rattle.fips.specs.Words.{word}
+use mathlib.Core.Bool.{Bool, true, false, cond}
+use lib.Dec.{eqb}
+use Rattle.fips.specs.declared.lookup.EditionSizes.{EditionSizes}
+use Rattle.fips.specs.declared.lookup.EditionSizes.the-variants.{Known, Unknown}
+use Rattle.fips.specs.Words.{Width, w32, w64, word, blockBytes}
 use Rattle.fips.specs.Editions.{known, width, digestBytes}
-use Rattle.fips.specs.ByteForm.{blockBytes}
 
 unfoldable pub sizesOf : ℕ → EditionSizes
 sizesOf e = cond (known e) (Known (word (width e)) (blockBytes (width e)) (digestBytes e)) Unknown
+
+-- whether an edition's words have 32 bits, and the width that says
+unfoldable pub isNarrow : ℕ → Bool
+isNarrow e = eqb (width e .bytes) 4
+
+abbrev pub widthOf : Bool → Width
+widthOf true = w32
+widthOf false = w64

@@ -49,6 +49,10 @@ module _ (p : Width) where
   abbrev pub word : ℕ
   word = 8 * p .bytes
 
+  -- the bytes of a block, which is sixteen words
+  abbrev pub blockBytes : ℕ
+  blockBytes = 16 * p .bytes
+
   -- §3.2: addition modulo 2^w, the complement, SHR and ROTR
   abbrev pub add : ℕ → ℕ → ℕ
   add x y = (x + y) % 2 ^ word

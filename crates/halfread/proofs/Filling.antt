@@ -1,25 +1,29 @@
--- A begun block is filled from the front of a piece, and the rest of the piece follows: the steps that `taken` takes are `added`.
+-- A begun block is filled from the front of a piece, and the rest of the piece follows: the steps that `with_piece` takes are `added`.
 -- Main statements: `taken-short`, where the block is not filled, and `taken-long`, where it is or none was begun.
 use Prim.Native.Nat.{ℕ, zero, suc, _+_, _-_, _*_, _/_, _%_, _≤_, _<_}
 use mathlib.Core.Bool.{true}
 use mathlib.Core.List.{List, _++_, append-assoc}
 use mathlib.Core.Logic.{_⊎_, inl, inr, ⊎-elim}
 use mathlib.Core.Path.{_≡_, refl, sym, ap, ap₂, _∙_}
-use native.Mathlib.Nat.{div-add-mod', mod-eq-of-lt, mod-self, sub-zero, zero-mul, one-mul}
+use native.Mathlib.Nat.{mod-eq-of-lt, mod-self, sub-zero, zero-mul, one-mul}
 use native.Mathlib.Omega.{arith}
-use lib.ListN.{length, take, drop, replicate, length-append, length-drop, take-append-drop}
-use lib.Seq.{length-take-le, take-all, take-append-add}
-use Rattle.sha2.specs.AtFront.{atFront}
-use Rattle.sha2.specs.Hashing.{absorbed}
+use lib.ListN.{length, take, drop, replicate, length-append, take-append-drop}
+use lib.Seq.{length-take-le, take-append-add}
+use Rattle.slices.specs.AtFront.{atFront}
+use Rattle.sha2.specs.code.Hashing.{absorbed}
 use Rattle.halfread.specs.declared.HalfRead.{HalfRead}
-use Rattle.halfread.specs.State.{block, held, pending, padded, sound}
-use Rattle.halfread.specs.Steps.{rest, waiting, added}
-use Rattle.halfread.proofs.Adding.{absorbed-none, absorbed-append, rest-small, rest-append, length-waiting}
+use Rattle.halfread.specs.State.{blockOf, tailLength, pending, padded, sound, tailRoom}
+use Rattle.slices.specs.Blocks.{rest}
+use Rattle.halfread.specs.Steps.{waiting, added}
+use Rattle.sha2.proofs.Absorbed.{absorbed-none, absorbed-append}
+use Rattle.halfread.proofs.Adding.{length-waiting}
+use Rattle.slices.proofs.Blocks.{rest-small, rest-append}
 use Rattle.halfread.proofs.Fields.{same-state}
 use Rattle.halfread.proofs.Rules.{held-lt, held-within}
-use Rattle.halfread.proofs.Sizes.{block-some, block-within}
+use Rattle.fips.proofs.Sizes.{block-some, block-within}
 use Rattle.halfread.proofs.Soundness.{facts-of, zeros-behind}
 use Rattle.halfread.proofs.Tails.{front-behind, front-padded, length-pending}
+use Rattle.slices.proofs.Parts.{partTo, part-all}
 
 -- ---- what a begun block of b bytes lacks where n are there
 
@@ -42,52 +46,41 @@ lack-short b n m h k =
 
 -- ---- the code's steps
 
--- a part of a list from a place to its end, as the borrow checker has it
-abbrev pub part : ℕ → List ℕ → List ℕ
-part at xs = take (length xs - at) (drop at xs)
-
--- what follows the whole blocks of n bytes
-abbrev pub whole-behind : ℕ → List ℕ → List ℕ
-whole-behind n xs = part (length xs - length xs % n) xs
-
-pub part-all : (at : ℕ) (xs : List ℕ) → part at xs ≡ drop at xs
-part-all at xs = take-all (length xs - at) (drop at xs) (rw (length-drop at xs) (omega arith))
-
-module _ (h : HalfRead) (long : length (h .tail) ≡ 128) (ok : sound h ≡ true) (piece : List ℕ) where
+module _ (h : HalfRead) (long : length (h .tail) ≡ tailRoom) (ok : sound h ≡ true) (piece : List ℕ) where
   -- the piece behind the tail's bytes, as much as there is room for
-  pub filled : {from : ℕ} (mid : List ℕ) → from ≡ held h → mid ≡ atFront piece (take (128 - from) (drop from (h .tail))) →
-      take from (h .tail) ++ (mid ++ drop (128 - from) (drop from (h .tail))) ≡ padded (waiting h piece)
+  pub filled : {from : ℕ} (mid : List ℕ) → from ≡ tailLength h → mid ≡ atFront piece (take (tailRoom - from) (drop from (h .tail))) →
+      take from (h .tail) ++ (mid ++ drop (tailRoom - from) (drop from (h .tail))) ≡ padded (waiting h piece)
   filled {from} mid isFrom isMid =
-      let zeros : drop from (h .tail) ≡ replicate (128 - from) 0 =
+      let zeros : drop from (h .tail) ≡ replicate (tailRoom - from) 0 =
       rw isFrom (zeros-behind h ok long) in
-      front-behind 128 from (h .tail) piece mid (omega (arith, held-within h)) long zeros isMid
+      front-behind tailRoom from (h .tail) piece mid (omega (arith, held-within h)) long zeros isMid
       ∙ ap (λ (n : ℕ). padded (take n (h .tail) ++ piece)) isFrom
 
-  pub taken-short : {size from : ℕ} {tail : List ℕ} → size ≡ block h → from ≡ held h → tail ≡ padded (waiting h piece) →
+  pub taken-short : {size from : ℕ} {tail : List ℕ} → size ≡ blockOf h → from ≡ tailLength h → tail ≡ padded (waiting h piece) →
       length piece < lack size from →
       record { edition = h .edition; count = h .count + length piece; words = h .words; tail = tail } ≡ added h piece
   unfolding added
   taken-short {size} {from} {tail} isSize isFrom isTail short =
-      let short′ : length piece < lack (block h) (held h) = rw (isSize, isFrom) at short in
-      let small : length (waiting h piece) < block h =
-      rw (length-waiting h long piece) (lack-short (block h) (held h) (length piece) (held-lt h) short′) in
+      let short′ : length piece < lack (blockOf h) (tailLength h) = rw (isSize, isFrom) at short in
+      let small : length (waiting h piece) < blockOf h =
+      rw (length-waiting h long piece) (lack-short (blockOf h) (tailLength h) (length piece) (held-lt h) short′) in
       let f = facts-of h ok long in
       same-state (record { edition = h .edition; count = h .count + length piece; words = h .words; tail = tail }) (added h piece) refl refl
       (sym (absorbed-none (h .edition) (h .words) (waiting h piece) (f .below) small))
-      (isTail ∙ ap padded (sym (rest-small (block h) (waiting h piece) small)))
+      (isTail ∙ ap padded (sym (rest-small (blockOf h) (waiting h piece) small)))
 
   pub taken-long : {size from : ℕ} {tail last g v : List ℕ} →
-      size ≡ block h → from ≡ held h → tail ≡ padded (waiting h piece) →
+      size ≡ blockOf h → from ≡ tailLength h → tail ≡ padded (waiting h piece) →
       lack size from ≤ length piece →
       g ≡ absorbed (h .edition) (h .words) (take (from + lack size from) tail) →
-      v ≡ absorbed (h .edition) g (part (lack size from) piece) →
-      last ≡ padded (whole-behind size (part (lack size from) piece)) →
+      v ≡ absorbed (h .edition) g (partTo (lack size from) piece) →
+      {cut : ℕ} → cut ≡ length (partTo (lack size from) piece) / size * size → last ≡ padded (partTo cut (partTo (lack size from) piece)) →
       record { edition = h .edition; count = h .count + length piece; words = v; tail = last } ≡ added h piece
   unfolding added
-  taken-long {size} {from} {tail} {last} {g} {v} isSize isFrom isTail enough isG isV isLast =
+  taken-long {size} {from} {tail} {last} {g} {v} isSize isFrom isTail enough isG isV {cut} isCut isLast =
       let e = h .edition in
-      let b = block h in
-      let n = held h in
+      let b = blockOf h in
+      let n = tailLength h in
       let P = pending h in
       let m = lack b n in
       let isM : lack size from ≡ m = ap₂ lack isSize isFrom in
@@ -103,16 +96,15 @@ module _ (h : HalfRead) (long : length (h .tail) ≡ 128) (ok : sound h ≡ true
       ∙ front-padded (waiting h piece) (n + m) (omega (arith, w .2, block-within e)) (rw (length-waiting h long piece) (omega arith))
       ∙ ap (λ (k : ℕ). take (k + m) (P ++ piece)) (sym lp)
       ∙ take-append-add P piece m in
-      let after : part (lack size from) piece ≡ R = part-all (lack size from) piece ∙ ap (λ (k : ℕ). drop k piece) isM in
-      let cut : length R - length R % b ≡ length R / b * b = omega (arith, div-add-mod' (length R) b) in
-      let back : whole-behind b R ≡ rest b R =
-      part-all (length R - length R % b) R ∙ ap (λ (k : ℕ). drop k R) cut in
+      let after : partTo (lack size from) piece ≡ R = part-all (lack size from) piece ∙ ap (λ (k : ℕ). drop k piece) isM in
+      let back : partTo cut (partTo (lack size from) piece) ≡ rest b R =
+      part-all cut (partTo (lack size from) piece)
+      ∙ ap₂ (λ (k : ℕ) (l : List ℕ). drop k l) (isCut ∙ ap₂ (λ (l : List ℕ) (k : ℕ). length l / k * k) after isSize) after in
       same-state (record { edition = h .edition; count = h .count + length piece; words = v; tail = last }) (added h piece) refl refl
       (isV
       ∙ ap₂ (absorbed e) (isG ∙ ap (absorbed e (h .words)) front) after
       ∙ sym (absorbed-append e (h .words) (w .0) A R la)
       ∙ ap (absorbed e (h .words)) (sym all))
       (isLast
-      ∙ ap₂ (λ (l : List ℕ) (k : ℕ). padded (whole-behind k l)) after isSize
       ∙ ap padded (back ∙ sym (rest-append b (w .0) A R (block-some e) la))
       ∙ ap (λ (l : List ℕ). padded (rest b l)) (sym all))

@@ -1,5 +1,4 @@
 -- Laws of a half-read message; each function's folder cites them.
-pub mod Lists
 pub mod Sizes
 pub mod Fields
 pub mod Rules
@@ -7,10 +6,5 @@ pub mod Tails
 pub mod Soundness
 pub mod Adding
 pub mod Filling
-pub mod Records
-pub mod RecordLayout
-pub mod RecordFields
-pub mod Loading
 pub mod Opening
-pub mod OneRecord
-pub mod Outcomes
+pub mod Settled

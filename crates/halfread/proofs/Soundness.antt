@@ -1,4 +1,4 @@
--- A sound half-read message: document 01, "The table of bays". What `sound` tells, as facts, and the way back.
+-- A sound half-read message: SPEC, "The table of bays". What `sound` tells, as facts, and the way back.
 -- Main statements: `sound-facts` and `facts-sound`.
 use Prim.Native.Nat.{ℕ, _-_, _^_, _≤_, _<_}
 use mathlib.Core.Bool.{Bool, true, false, _||_}
@@ -9,15 +9,15 @@ use native.Mathlib.Nat.{lt-of-not-le}
 use native.Mathlib.Omega.{arith}
 use lib.ListN.{length, drop, replicate, length-drop, take-append-drop}
 use lib.Pow.{pow-pos}
-use borrow.Author.Tests.{leb-true, le-leb, lt-leb}
-use Rattle.bigendian.specs.BigEndian.{Below}
+use borrow.Author.Tests.{lt-leb, not-true}
+use Rattle.slices.specs.Below.{Below}
 use Rattle.fips.specs.Words.{word}
 use Rattle.fips.specs.Editions.{known, width, start}
-use Rattle.sha2.specs.Hash.{limit}
+use Rattle.sha2.specs.Limit.{tooLong}
 use Rattle.halfread.specs.declared.HalfRead.{HalfRead}
-use Rattle.halfread.specs.Lists.{allZero}
-use Rattle.halfread.specs.State.{block, held, pending, padded, rules, sound, Shaped}
-use Rattle.halfread.proofs.Lists.{holds-at, allBelow-below, below-allBelow, allZero-zeros, zeros-allZero, same→≡, ≡→same}
+use Rattle.slices.specs.Tests.{allZero}
+use Rattle.halfread.specs.State.{blockOf, tailLength, pending, padded, rules, sound, Shaped, tailRoom}
+use Rattle.slices.proofs.Tests.{holds-at, allBelow-below, below-allBelow, allZero-zeros, zeros-allZero, same-eq, eq-same}
 use Rattle.halfread.proofs.Rules.{held-within, Kept, past-rule, start-rule}
 use Rattle.halfread.proofs.Tails.{length-pending, padded-room, drop-padded}
 
@@ -30,22 +30,23 @@ sound-kept h e =
 -- what a sound message has
 pub record Sound (h : HalfRead) : Type 0 where
   pub known : known (h .edition) ≡ true
-  pub limited : h .count ≤ limit
+  pub limited : tooLong (h .edition) (h .count) 0 ≡ false
   pub below : Below (2 ^ word (width (h .edition))) (h .words)
   pub tail : h .tail ≡ padded (pending h)
-  pub begun : h .count < block h → h .words ≡ start (h .edition)
+  pub begun : h .count < blockOf h → h .words ≡ start (h .edition)
 
 -- the tail is its bytes and zeros
-pub zeros-behind : (h : HalfRead) → sound h ≡ true → length (h .tail) ≡ 128 → drop (held h) (h .tail) ≡ replicate (128 - held h) 0
+pub zeros-behind : (h : HalfRead) → sound h ≡ true → length (h .tail) ≡ tailRoom →
+    drop (tailLength h) (h .tail) ≡ replicate (tailRoom - tailLength h) 0
 zeros-behind h e long =
-    allZero-zeros (drop (held h) (h .tail)) (sound-kept h e .zero)
-    ∙ ap (λ (n : ℕ). replicate n 0) (length-drop (held h) (h .tail) ∙ ap (λ (n : ℕ). n - held h) long)
+    allZero-zeros (drop (tailLength h) (h .tail)) (sound-kept h e .zero)
+    ∙ ap (λ (n : ℕ). replicate n 0) (length-drop (tailLength h) (h .tail) ∙ ap (λ (n : ℕ). n - tailLength h) long)
 
-pub sound-limited : (h : HalfRead) → sound h ≡ true → h .count ≤ limit
-sound-limited h e = leb-true (h .count) limit (sound-kept h e .short)
+pub sound-limited : (h : HalfRead) → sound h ≡ true → tooLong (h .edition) (h .count) 0 ≡ false
+sound-limited h e = not-true _ (sound-kept h e .short)
 
 -- of the shape only the tail's length counts
-pub facts-of : (h : HalfRead) → sound h ≡ true → length (h .tail) ≡ 128 → Sound h
+pub facts-of : (h : HalfRead) → sound h ≡ true → length (h .tail) ≡ tailRoom → Sound h
 unfolding sound
 facts-of h e long =
     let k = sound-kept h e in
@@ -54,11 +55,11 @@ facts-of h e long =
       limited = sound-limited h e;
       below = allBelow-below (2 ^ word (width (h .edition))) (h .words) (pow-pos (word (width (h .edition)))) (k .below);
       tail =
-          sym (take-append-drop (held h) (h .tail))
+          sym (take-append-drop (tailLength h) (h .tail))
           ∙ ap (λ (l : List ℕ). pending h ++ l)
-          (zeros-behind h e long ∙ ap (λ (n : ℕ). replicate (128 - n) 0) (sym (length-pending h long)))
+          (zeros-behind h e long ∙ ap (λ (n : ℕ). replicate (tailRoom - n) 0) (sym (length-pending h long)))
           ∙ sym (padded-room (pending h) (omega (arith, length-pending h long, held-within h)));
-      begun = λ p. same→≡ (h .words) (start (h .edition)) (either (lt-leb (block h) (h .count) p) (holds-at (rules h) e 4));
+      begun = λ p. same-eq (h .words) (start (h .edition)) (either (lt-leb (blockOf h) (h .count) p) (holds-at (rules h) e 4));
     }
   where
     either : {a b : Bool} → a ≡ false → (a || b) ≡ true → b ≡ true
@@ -68,24 +69,24 @@ pub sound-facts : (h : HalfRead) → sound h ≡ true → Shaped h → Sound h
 sound-facts h e s = facts-of h e (s .wide)
 
 pub facts-sound : (h : HalfRead) → Shaped h → Sound h → sound h ≡ true
-facts-sound h s f = go (decLe (block h) (h .count))
+facts-sound h s f = go (decLe (blockOf h) (h .count))
   where
-    zero : allZero (drop (held h) (h .tail)) ≡ true
+    zero : allZero (drop (tailLength h) (h .tail)) ≡ true
     zero =
-        ap (λ (l : List ℕ). allZero (drop (held h) l)) (f .tail)
-        ∙ ap allZero (drop-padded (pending h) (held h) (omega (arith, held-within h)) (length-pending h (s .wide)))
-        ∙ zeros-allZero (128 - held h)
+        ap (λ (l : List ℕ). allZero (drop (tailLength h) l)) (f .tail)
+        ∙ ap allZero (drop-padded (pending h) (tailLength h) (omega (arith, held-within h)) (length-pending h (s .wide)))
+        ∙ zeros-allZero (tailRoom - tailLength h)
 
     kept : Kept h
     kept =
         record {
           known = f .known;
-          short = le-leb (h .count) limit (f .limited);
+          short = rw (f .limited);
           below = below-allBelow (2 ^ word (width (h .edition))) (h .words) (f .below);
           zero = zero;
         }
 
-    go : Dec (block h ≤ h .count) → sound h ≡ true
+    go : Dec (blockOf h ≤ h .count) → sound h ≡ true
     go (yes p) = sym (past-rule h kept p)
     go (no p) =
-        sym (start-rule h kept (lt-of-not-le p) refl (sym (≡→same (h .words) (start (h .edition)) (f .begun (lt-of-not-le p)))))
+        sym (start-rule h kept (lt-of-not-le p) refl (sym (eq-same (h .words) (start (h .edition)) (f .begun (lt-of-not-le p)))))

@@ -1,30 +1,24 @@
 -- A tail: bytes with zeros behind them. Laws of `padded` and `pending`, and of bytes written behind those that stand there.
-use Prim.Native.Nat.{ℕ, zero, suc, _+_, _-_, _≤_}
+use Prim.Native.Nat.{ℕ, _+_, _-_, _≤_}
 use mathlib.Core.List.{List, _++_, append-assoc, append-nil}
 use mathlib.Core.Path.{_≡_, sym, ap, ap₂, _∙_}
-use native.Mathlib.Nat.{sub-zero, zero-sub, suc-sub-suc}
 use native.Mathlib.Omega.{arith}
 use lib.Dec.{lit<}
 use lib.ListN.{length, take, drop, replicate, length-append, length-replicate, length-take, drop-of-length-le}
 use lib.Seq.{take-all, take-at, drop-at, take-append-add, take-append-le, take-take, length-take-le}
-use Rattle.bigendian.specs.BigEndian.{Bytes}
-use Rattle.bigendian.proofs.Below.{below-append, below-take, below-replicate}
-use Rattle.sha2.specs.AtFront.{atFront}
-use Rattle.sha2.proofs.AtFront.{length-atFront}
+use Rattle.slices.specs.Below.{Bytes}
+use Rattle.slices.proofs.Below.{below-append, below-take, below-replicate}
+use Rattle.slices.specs.AtFront.{atFront}
+use Rattle.slices.proofs.AtFront.{length-atFront, drop-copies}
 use Rattle.halfread.specs.declared.HalfRead.{HalfRead}
-use Rattle.halfread.specs.State.{held, pending, padded}
+use Rattle.halfread.specs.State.{tailLength, pending, padded, tailRoom}
 use Rattle.halfread.proofs.Rules.{held-within}
-
-drop-zeros : (k m : ℕ) → drop k (replicate {A = ℕ} m 0) ≡ replicate (m - k) 0
-drop-zeros zero m = ap (λ (n : ℕ). replicate n 0) (sym (sub-zero m))
-drop-zeros (suc k) zero = ap (λ (n : ℕ). replicate n 0) (sym (zero-sub (suc k)))
-drop-zeros (suc k) (suc m) = drop-zeros k m ∙ ap (λ (n : ℕ). replicate n 0) (sym (suc-sub-suc m k))
 
 -- bytes in a buffer of zeros
 front-zeros : (size : ℕ) (bs : List ℕ) → atFront bs (replicate size 0) ≡ take size bs ++ replicate (size - length bs) 0
 unfolding atFront
 front-zeros size bs =
-    ap₂ (λ (n : ℕ) (l : List ℕ). take n bs ++ l) (length-replicate {A = ℕ} size 0) (drop-zeros (length bs) size)
+    ap₂ (λ (n : ℕ) (l : List ℕ). take n bs ++ l) (length-replicate {A = ℕ} size 0) (drop-copies (length bs) size 0)
 
 front-room : (size : ℕ) (bs : List ℕ) → length bs ≤ size → atFront bs (replicate size 0) ≡ bs ++ replicate (size - length bs) 0
 front-room size bs h = front-zeros size bs ∙ ap (λ (l : List ℕ). l ++ replicate (size - length bs) 0) (take-all size bs h)
@@ -47,30 +41,30 @@ front-behind size n tail piece mid h long zeros isMid =
     (sym (ap (λ (m : ℕ). take m (p ++ piece)) whole ∙ take-append-add p piece (size - n))) left
     ∙ sym (front-zeros size (p ++ piece)))
 
-pub length-padded : (bs : List ℕ) → length (padded bs) ≡ 128
-length-padded bs = length-atFront bs (replicate 128 0)
+pub length-padded : (bs : List ℕ) → length (padded bs) ≡ tailRoom
+length-padded bs = length-atFront bs (replicate tailRoom 0)
 
-pub padded-room : (bs : List ℕ) → length bs ≤ 128 → padded bs ≡ bs ++ replicate (128 - length bs) 0
-padded-room bs h = front-room 128 bs h
+pub padded-room : (bs : List ℕ) → length bs ≤ tailRoom → padded bs ≡ bs ++ replicate (tailRoom - length bs) 0
+padded-room bs h = front-room tailRoom bs h
 
-pub take-padded : (bs : List ℕ) (n : ℕ) → n ≤ 128 → length bs ≡ n → take n (padded bs) ≡ bs
-take-padded bs n h e = ap (take n) (padded-room bs (omega arith)) ∙ take-at bs (replicate (128 - length bs) 0) n e
+pub take-padded : (bs : List ℕ) (n : ℕ) → n ≤ tailRoom → length bs ≡ n → take n (padded bs) ≡ bs
+take-padded bs n h e = ap (take n) (padded-room bs (omega arith)) ∙ take-at bs (replicate (tailRoom - length bs) 0) n e
 
 -- the front of what was padded, whether it had room or not
-pub front-padded : (bs : List ℕ) (m : ℕ) → m ≤ 128 → m ≤ length bs → take m (padded bs) ≡ take m bs
+pub front-padded : (bs : List ℕ) (m : ℕ) → m ≤ tailRoom → m ≤ length bs → take m (padded bs) ≡ take m bs
 front-padded bs m h k =
-    ap (take m) (front-zeros 128 bs)
-    ∙ take-append-le m (take 128 bs) (replicate (128 - length bs) 0) (rw (length-take 128 bs) (omega arith))
-    ∙ take-take m 128 bs h
+    ap (take m) (front-zeros tailRoom bs)
+    ∙ take-append-le m (take tailRoom bs) (replicate (tailRoom - length bs) 0) (rw (length-take tailRoom bs) (omega arith))
+    ∙ take-take m tailRoom bs h
 
-pub drop-padded : (bs : List ℕ) (n : ℕ) → n ≤ 128 → length bs ≡ n → drop n (padded bs) ≡ replicate (128 - n) 0
+pub drop-padded : (bs : List ℕ) (n : ℕ) → n ≤ tailRoom → length bs ≡ n → drop n (padded bs) ≡ replicate (tailRoom - n) 0
 drop-padded bs n h e =
-    ap (drop n) (padded-room bs (omega arith)) ∙ drop-at bs (replicate (128 - length bs) 0) n e ∙ ap (λ (m : ℕ). replicate (128 - m) 0) e
+    ap (drop n) (padded-room bs (omega arith)) ∙ drop-at bs (replicate (tailRoom - length bs) 0) n e ∙ ap (λ (m : ℕ). replicate (tailRoom - m) 0) e
 
 pub padded-bytes : (bs : List ℕ) → Bytes bs → Bytes (padded bs)
 padded-bytes bs h =
-    rw (front-zeros 128 bs)
-    (below-append (take 128 bs) (replicate (128 - length bs) 0) (below-take 128 bs h) (below-replicate (128 - length bs) (lit< tt)))
+    rw (front-zeros tailRoom bs)
+    (below-append (take tailRoom bs) (replicate (tailRoom - length bs) 0) (below-take tailRoom bs h) (below-replicate (tailRoom - length bs) (lit< tt)))
 
-pub length-pending : (h : HalfRead) → length (h .tail) ≡ 128 → length (pending h) ≡ held h
-length-pending h e = length-take-le (held h) (h .tail) (omega (arith, held-within h))
+pub length-pending : (h : HalfRead) → length (h .tail) ≡ tailRoom → length (pending h) ≡ tailLength h
+length-pending h e = length-take-le (tailLength h) (h .tail) (omega (arith, held-within h))

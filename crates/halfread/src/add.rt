@@ -1,21 +1,21 @@
-// Adding a piece: document 01, "Calls and their numbers". The blocks of a piece are taken where they lie.
-ghost use mathlib.Core.Bool.{true};
+// Adding a piece: SPEC, "Calls and their numbers". The blocks of a piece are taken where they lie.
+ghost use mathlib.Core.Bool.{true, false};
 ghost use mathlib.Core.Path.{_≡_};
-ghost use Prim.Native.Nat.{_+_, _≤_};
 ghost use lib.ListN.{length};
 ghost use Rattle.answers.specs.Judged.{Judged};
-ghost use Rattle.sha2.specs.Hash.{limit};
+ghost use Rattle.answers.specs.Numbers.{numberOf};
+ghost use Rattle.sha2.specs.Limit.{tooLong};
 ghost use Rattle.halfread.specs.State.{sound};
 ghost use Rattle.halfread.specs.Steps.{addTests, added};
 use crate::HalfRead;
-use crate::sound::LIMIT;
 use crate::sound::is_sound;
-use crate::tail::block;
-use crate::tail::held;
 use crate::tail::padded;
+use crate::tail::tail_length;
 use answers::Answer;
-use sha2::front::put_front;
+use fips::lookup::block_bytes;
 use sha2::hashing::absorb;
+use sha2::limit::too_long;
+use slices::front::put_front;
 
 pub struct Added {
     pub answer: Answer,
@@ -23,16 +23,16 @@ pub struct Added {
 }
 
 // The begun block is filled from the front of the piece; what is left of the piece is absorbed where it lies, and its rest is the new tail.
-fn taken(half: HalfRead, piece: &[u8]) -> HalfRead
-    requires { ⌜ (sound half ≡ true) × (half .count + length (now piece) ≤ limit) ⌝ }
+fn with_piece(half: HalfRead, piece: &[u8]) -> HalfRead
+    requires { ⌜ (sound half ≡ true) × (tooLong (half .edition) (half .count) (length (now piece)) ≡ false) ⌝ }
     ensures { λ r. ⌜ r ≡ added half (now (piece .entry)) ⌝ }
 {
     let edition = half.edition;
     let count = half.count + piece.len() as u64;
     let words = half.words;
     let mut tail = half.tail;
-    let size = block(edition);
-    let from = held(edition, half.count);
+    let size = block_bytes(edition);
+    let from = tail_length(edition, half.count);
     // what the begun block lacks: nothing where none is begun
     let lead = (size - from) % size;
     put_front(&mut tail[from..], piece);
@@ -48,7 +48,7 @@ fn taken(half: HalfRead, piece: &[u8]) -> HalfRead
     let filled = absorb(edition, words, &tail[..end]);
     let rest = &piece[lead..];
     let words = absorb(edition, filled, rest);
-    let whole = rest.len() - rest.len() % size;
+    let whole = slices::places::rest_at(rest.len(), size);
     let tail = padded(&rest[whole..]);
     HalfRead {
         edition,
@@ -60,7 +60,7 @@ fn taken(half: HalfRead, piece: &[u8]) -> HalfRead
 
 pub fn add(half: HalfRead, piece: &[u8]) -> Added
     ensures { λ r.
-        ⌜ Judged (addTests half (now (piece .entry))) half (added half (now (piece .entry))) (r .answer) (r .half) ⌝ }
+        ⌜ Judged (addTests half (now (piece .entry))) half (added half (now (piece .entry))) (numberOf (r .answer)) (r .half) ⌝ }
 {
     if !is_sound(half) {
         return Added {
@@ -68,13 +68,13 @@ pub fn add(half: HalfRead, piece: &[u8]) -> Added
             half,
         };
     }
-    if LIMIT - half.count < piece.len() as u64 {
+    if too_long(half.edition, half.count, piece.len()) {
         return Added {
             answer: Answer::TooLong,
             half,
         };
     }
-    let next = taken(half, piece);
+    let next = with_piece(half, piece);
     Added {
         answer: Answer::Done,
         half: next,

@@ -1,17 +1,17 @@
-// Closing: the digest of all that was taken and of the closing bits. Document 01, "Calls and their numbers".
-ghost use mathlib.Core.Path.{_≡_};
+// Closing: the digest of all that was taken and of the closing bits. SPEC, "Calls and their numbers".
 ghost use Rattle.answers.specs.Judged.{Judged};
-ghost use Rattle.sha2.specs.AtFront.{atFront};
-ghost use Rattle.halfread.specs.Steps.{closeTests, closed};
+ghost use Rattle.answers.specs.Numbers.{numberOf};
+ghost use Rattle.slices.specs.AtFront.{atFront};
+ghost use Rattle.halfread.specs.Steps.{closeTests, closedDigest};
 use crate::HalfRead;
 use crate::sound::is_sound;
-use crate::tail::held;
+use crate::tail::tail_length;
 use answers::Answer;
 
 pub fn close(half: HalfRead, closing: u8, bits: u64, out: &mut [u8]) -> Answer
     ensures { λ r.
         ⌜ Judged (closeTests half closing bits (now (out .entry))) (now (out .entry))
-        (atFront (closed half closing bits) (now (out .entry))) r (now (out .exit)) ⌝ }
+        (atFront (closedDigest half closing bits) (now (out .entry))) (numberOf r) (now (out .exit)) ⌝ }
 {
     if !is_sound(half) {
         return Answer::NotSound;
@@ -20,11 +20,11 @@ pub fn close(half: HalfRead, closing: u8, bits: u64, out: &mut [u8]) -> Answer
         return Answer::BadClosing;
     }
     let edition = half.edition;
-    if out.len() < sha2::hashing::digest_bytes(edition) {
+    if out.len() < fips::lookup::digest_bytes(edition) {
         return Answer::ShortOutput;
     }
     let tail = half.tail;
-    let end = held(edition, half.count);
+    let end = tail_length(edition, half.count);
     let words = half.words;
     let last = sha2::finish::finish(edition, words, half.count, &tail[..end], closing, bits);
     sha2::hashing::write_digest(edition, last, out);

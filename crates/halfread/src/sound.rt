@@ -1,26 +1,13 @@
-// Whether a half-read message is sound: document 01, "The table of bays". One function for each rule, and `is_sound` asks them all.
+// Whether a half-read message is sound: SPEC, "The table of bays". One function for each rule, and `is_sound` asks them all.
 ghost use mathlib.Core.Path.{_≡_};
 ghost use Prim.Native.Nat.{_^_};
 ghost use Rattle.fips.specs.Words.{word};
 ghost use Rattle.fips.specs.Editions.{known};
-ghost use Rattle.sha2.specs.Hashing.{widthOf};
-ghost use Rattle.halfread.specs.Lists.{allBelow};
+ghost use Rattle.fips.specs.Sizes.{widthOf};
+ghost use Rattle.slices.specs.Tests.{allBelow};
 ghost use Rattle.halfread.specs.State.{sound};
 use crate::HalfRead;
-use crate::same::all_zero;
-use crate::same::same_words;
-use crate::tail::block;
-use crate::tail::held;
-
-// House: at most 2^40 bytes.
-pub const LIMIT: u64 = 0x100_0000_0000;
-
-// An edition of the standard has a digest.
-fn known(edition: u64) -> bool
-    ensures { λ r. ⌜ r ≡ known edition ⌝ }
-{
-    sha2::hashing::digest_bytes(edition) != 0
-}
+use crate::tail::tail_length;
 
 // Each word is below 2^w: of 64 bits every word is.
 fn below_width(words: [u64; 8], thin: bool) -> bool
@@ -44,25 +31,25 @@ pub fn is_sound(half: HalfRead) -> bool
 {
     let edition = half.edition;
     let count = half.count;
-    if !known(edition) {
+    if !fips::lookup::known(edition) {
         return false;
     }
-    if LIMIT < count {
+    if sha2::limit::too_long(edition, count, 0) {
         return false;
     }
     let words = half.words;
-    if !below_width(words, sha2::hashing::narrow(edition)) {
+    if !below_width(words, fips::lookup::narrow(edition)) {
         return false;
     }
     let tail = half.tail;
-    let from = held(edition, count);
-    if !all_zero(&tail[from..]) {
+    let from = tail_length(edition, count);
+    if !slices::zero::bytes_zero(&tail[from..]) {
         return false;
     }
-    let size = block(edition) as u64;
+    let size = fips::lookup::block_bytes(edition) as u64;
     if size <= count {
         return true;
     }
-    let start = fips::starting_words(edition);
-    same_words(&words, &start)
+    let start = sha2::starting::starting_words(edition);
+    slices::same::same_words(&words, &start)
 }

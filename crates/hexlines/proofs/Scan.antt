@@ -1,18 +1,17 @@
 -- Scans of a text from its front: what is left from i on decides what the whole text is.
-use mathlib.Core.Path.{_≡_, refl, sym, _∙_, ap}
+use mathlib.Core.Path.{_≡_, refl, sym, _∙_}
 use mathlib.Core.Bool.{false}
 use mathlib.Core.List.{List, [], _∷_}
-use Prim.Native.Nat.{ℕ, suc, _+_, _*_, _%_, _<_, _≤_}
+use Prim.Native.Nat.{ℕ, _+_, _*_, _%_, _<_, _≤_}
 use native.Mathlib.Omega.{arith}
 use native.Mathlib.Numerals.{add-one}
 use borrow.Author.Tests.{eq-eqb, ne-eqb, lt-ltb, le-ltb}
 use lib.Dec.{eqb}
 use lib.ListN.{length, getD, take, drop, drop-of-length-le}
 use lib.Seq.{drop-cons, length-take-le}
-use Rattle.hexlines.specs.declared.Number.{Number}
 use Rattle.hexlines.specs.declared.Number.the-variants.{Is, Not}
 use Rattle.hexlines.specs.Fields.{place}
-use Rattle.hexlines.specs.Digits.{digitOf, allDigits, isHex, numberFrom, numberOf}
+use Rattle.hexlines.specs.Digits.{digitOf, allDigits, isHex, numberFrom, decimalOf}
 
 -- the first i bytes are not b
 pub record Passed (b : ℕ) (s : List ℕ) (i : ℕ) : Type 0 where
@@ -78,13 +77,13 @@ pub record Numbered (s : List ℕ) (x i : ℕ) : Type 0 where
 pub no-number : (s : List ℕ) → Numbered s 0 0
 no-number s = record { within = omega arith; small = omega arith; left = refl }
 
-pub empty-number : (s : List ℕ) → length s ≡ 0 → Not ≡ numberOf s
-unfolding numberOf
+pub empty-number : (s : List ℕ) → length s ≡ 0 → Not ≡ decimalOf s
+unfolding decimalOf
 empty-number [] e = refl
 empty-number (c ∷ s) e = absurd (omega arith)
 
-some-number : (s : List ℕ) → 0 < length s → numberOf s ≡ numberFrom 0 s
-unfolding numberOf
+some-number : (s : List ℕ) → 0 < length s → decimalOf s ≡ numberFrom 0 s
+unfolding decimalOf
 some-number [] h = absurd (omega arith)
 some-number (c ∷ s) h = refl
 
@@ -98,16 +97,16 @@ one-more s x i d h e l k p =
       left = p .left ∙ rw (drop-cons s i 0 h, ← e, le-ltb 9 d l, le-ltb 1000000000000 x k, add-one);
     }
 
-pub no-decimal : (s : List ℕ) (x i d : ℕ) → i < length s → d ≡ digitOf (getD s i 0) → 9 < d → Numbered s x i → Not ≡ numberOf s
+pub no-decimal : (s : List ℕ) (x i d : ℕ) → i < length s → d ≡ digitOf (getD s i 0) → 9 < d → Numbered s x i → Not ≡ decimalOf s
 unfolding numberFrom
 no-decimal s x i d h e l p = sym (some-number s (omega arith) ∙ p .left ∙ rw (drop-cons s i 0 h, ← e, lt-ltb 9 d l))
 
 pub too-large : (s : List ℕ) (x i d : ℕ) → i < length s → d ≡ digitOf (getD s i 0) → d ≤ 9 → 1000000000000 < x → Numbered s x i
-    → Not ≡ numberOf s
+    → Not ≡ decimalOf s
 unfolding numberFrom
 too-large s x i d h e l k p =
     sym (some-number s (omega arith) ∙ p .left ∙ rw (drop-cons s i 0 h, ← e, le-ltb 9 d l, lt-ltb 1000000000000 x k))
 
-pub whole-number : (s : List ℕ) (x i : ℕ) → 0 < length s → length s ≤ i → Numbered s x i → Is x ≡ numberOf s
+pub whole-number : (s : List ℕ) (x i : ℕ) → 0 < length s → length s ≤ i → Numbered s x i → Is x ≡ decimalOf s
 unfolding numberFrom
 whole-number s x i n h p = sym (some-number s n ∙ p .left ∙ rw (drop-of-length-le s h))

@@ -35,6 +35,6 @@ unfoldable pub numberFrom : ℕ → List ℕ → Number
 numberFrom x [] = Is x
 numberFrom x (c ∷ s) = cond (ltb 9 (digitOf c)) Not (cond (ltb 1000000000000 x) Not (numberFrom (x * 10 + digitOf c) s))
 
-unfoldable pub numberOf : List ℕ → Number
-numberOf [] = Not
-numberOf (c ∷ s) = numberFrom 0 (c ∷ s)
+unfoldable pub decimalOf : List ℕ → Number
+decimalOf [] = Not
+decimalOf (c ∷ s) = numberFrom 0 (c ∷ s)

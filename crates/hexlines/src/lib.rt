@@ -4,7 +4,7 @@ ghost use mathlib.Core.Path.{_≡_};
 ghost use Prim.Native.Nat.{_/_, _≤_, min};
 ghost use lib.ListN.{length, take};
 ghost use Rattle.hexlines.specs.Fields.{place, firstField, otherFields};
-ghost use Rattle.hexlines.specs.Digits.{digitOf, byteOf, isHex, bytesOf, numberOf};
+ghost use Rattle.hexlines.specs.Digits.{digitOf, byteOf, isHex, bytesOf, decimalOf};
 
 // Where a byte first stands; the length where it stands nowhere.
 pub fn find(s: &[u8], b: u8) -> usize
@@ -114,7 +114,7 @@ fn wide(d: u8) -> u64
 
 // The number that decimal digits make; of numbers over 10^13 it says that they are none.
 pub fn decimal(s: &[u8]) -> Number
-    ensures { λ r. ⌜ r ≡ numberOf (now (s .entry)) ⌝ }
+    ensures { λ r. ⌜ r ≡ decimalOf (now (s .entry)) ⌝ }
 {
     if s.len() == 0 {
         return Number::Not;

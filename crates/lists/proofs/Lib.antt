@@ -1,10 +1,10 @@
-pub mod Compare
+-- Laws of digest lists; each function's folder cites them.
+pub mod Ascending
 pub mod Allowed
-pub mod Editions
 pub mod Written
 pub mod ByRules
 pub mod Walk
 pub mod Places
 pub mod ByNumber
 pub mod Lists
-pub mod Outcomes
+pub mod Settled

@@ -1,6 +1,6 @@
 -- What is true of digest lists. The bytes accepted are those of the valid lists, `listBytes-accepted` and `accepted-list`; each list has
 -- its own, `one-list`; a name is listed once, `names-distinct`, so that looking it up gives its digest, `digest-of-name`.
--- No list is longer than 34,832 bytes, `list-short`.
+-- No list is longer than `longestList`: `list-short`.
 use mathlib.Core.Bool.{Bool, true, false, cond, false≢true}
 use mathlib.Core.List.{List, [], _∷_, _++_}
 use mathlib.Core.Path.{_≡_, refl, sym, ap, subst, _∙_}
@@ -8,18 +8,20 @@ use Prim.Native.Nat.{ℕ, zero, suc, _+_, _<_, _≤_}
 use native.Mathlib.Nat.{not-suc-le-zero, le-of-suc-le-suc}
 use native.Mathlib.Omega.{arith}
 use lib.ListN.{length, getD}
-use borrow.Author.Tests.{ltb-true}
-use Rattle.bigendian.specs.BigEndian.{be, Bytes}
-use Rattle.bigendian.proofs.BigEndian.{be-bytes}
-use Rattle.bigendian.proofs.Below.{below-nil, below-append}
+use Rattle.bigendian.specs.Rows.{rowBytes}
+use Rattle.bigendian.proofs.RowLaws.{row-bytes}
 use Rattle.fips.specs.Editions.{digestBytes}
-use Rattle.lists.specs.Calls.{listed, digestIn, digestOf}
-use Rattle.lists.specs.Compare.{holds, every, same, before}
-use Rattle.lists.specs.Layout.{entryBytes, entryRun, nameRun, namesOf, wholeLength, header, listBytes, readList, accepted}
-use Rattle.lists.specs.Lists.{Pair, DigestList, isByte, pairAllowed, ascending, valid}
+use Rattle.slices.specs.Below.{Bytes}
+use Rattle.slices.specs.Tests.{holds, every, same}
+use Rattle.slices.proofs.Below.{below-nil, below-append}
+use Rattle.slices.proofs.Tests.{holds-at, cond-both, same-refl, same-eq, same-apart, allBelow-below}
+use Rattle.lists.specs.Calls.{listed, digestIn, listedDigest}
+use Rattle.lists.specs.Order.{before}
+use Rattle.lists.specs.Layout.{longestList, listRow, entryRow, entryBytes, entryRun, nameRun, namesOf, wholeLength, listBytes}
+use Rattle.lists.specs.Layout.{readList, accepted}
+use Rattle.lists.specs.Lists.{Pair, DigestList, pairAllowed, ascending, valid}
 use Rattle.lists.proofs.Allowed.{name-bytes}
-use Rattle.lists.proofs.Compare.{holds-at, cond-both, alike, every-below, same-refl, same-eq, before-not-self}
-use Rattle.lists.proofs.Compare.{ascending-first, ascending-later}
+use Rattle.lists.proofs.Ascending.{before-not-self, ascending-first, ascending-later}
 use Rattle.lists.proofs.Written.{allowed-pair, valid-list, read-back, whole-short, list-length}
 
 pub listBytes-accepted : (l : DigestList) → valid l ≡ true → accepted (listBytes l) ≡ true
@@ -45,24 +47,15 @@ one-list l m v w e = sym (read-list l v) ∙ ap readList e ∙ read-list m w
 
 -- ---- how long, and of what, the bytes are
 
-pub valid-short : (l : DigestList) → valid l ≡ true → length (listBytes l) ≤ 34832
+pub valid-short : (l : DigestList) → valid l ≡ true → length (listBytes l) ≤ longestList
 valid-short l v = rw (list-length l (valid-list l v)) (whole-short l (valid-list l v))
 
-pub list-short : (bs : List ℕ) → accepted bs ≡ true → length bs ≤ 34832
-list-short bs e = subst (λ (l : List ℕ). length l ≤ 34832) (accepted-bytes bs e) (valid-short (readList bs) (accepted-valid bs e))
-
-header-bytes : (e n names whole : ℕ) → Bytes (header e n names whole)
-unfolding header
-header-bytes e n names whole =
-    below-append (be 2 e ++ be 2 n ++ be 4 16 ++ be 4 names) (be 4 whole)
-    (below-append (be 2 e ++ be 2 n ++ be 4 16) (be 4 names)
-    (below-append (be 2 e ++ be 2 n) (be 4 16) (below-append (be 2 e) (be 2 n) (be-bytes 2 e) (be-bytes 2 n)) (be-bytes 4 16))
-    (be-bytes 4 names))
-    (be-bytes 4 whole)
+pub list-short : (bs : List ℕ) → accepted bs ≡ true → length bs ≤ longestList
+list-short bs e = subst (λ (l : List ℕ). length l ≤ longestList) (accepted-bytes bs e) (valid-short (readList bs) (accepted-valid bs e))
 
 digest-is-bytes : (d : ℕ) (p : Pair) → pairAllowed d p ≡ true → Bytes (p .digest)
 unfolding pairAllowed
-digest-is-bytes d p e = every-below isByte (λ b. ltb-true b 256) (p .digest) (holds-at _ e 2)
+digest-is-bytes d p e = allBelow-below 256 (p .digest) (omega arith) (holds-at _ e 2)
 
 runs-bytes : (d at : ℕ) (ps : List Pair) → every (pairAllowed d) ps ≡ true → Bytes (entryRun at ps) × Bytes (nameRun ps)
 unfolding every entryRun nameRun entryBytes
@@ -71,9 +64,8 @@ runs-bytes d at (p ∷ ps) e =
     let t = cond-both (pairAllowed d p) (every (pairAllowed d) ps) e in
     let r = runs-bytes d (at + length (p .name)) ps (t .1) in
     let len = length (p .name) in (
-      below-append (be 4 at ++ be 4 len ++ p .digest) (entryRun (at + len) ps)
-          (below-append (be 4 at ++ be 4 len) (p .digest) (below-append (be 4 at) (be 4 len) (be-bytes 4 at) (be-bytes 4 len))
-          (digest-is-bytes d p (t .0)))
+      below-append (rowBytes (entryRow at len) ++ p .digest) (entryRun (at + len) ps)
+          (below-append (rowBytes (entryRow at len)) (p .digest) (row-bytes (entryRow at len)) (digest-is-bytes d p (t .0)))
           (r .0),
       below-append (p .name) (nameRun ps) (name-bytes (p .name) (allowed-pair d p (t .0) .named)) (r .1),
     )
@@ -82,11 +74,9 @@ pub valid-bytes : (l : DigestList) → valid l ≡ true → Bytes (listBytes l)
 unfolding listBytes
 valid-bytes l v =
     let r = runs-bytes (digestBytes (l .edition)) (namesOf l) (l .pairs) (valid-list l v .allowed) in
-    let front = header (l .edition) (length (l .pairs)) (namesOf l) (wholeLength l) in
-    below-append (front ++ entryRun (namesOf l) (l .pairs)) (nameRun (l .pairs))
-    (below-append front (entryRun (namesOf l) (l .pairs))
-    (header-bytes (l .edition) (length (l .pairs)) (namesOf l) (wholeLength l)) (r .0))
-    (r .1)
+    let row = listRow (l .edition) (length (l .pairs)) (namesOf l) (wholeLength l) in
+    below-append (rowBytes row) (entryRun (namesOf l) (l .pairs) ++ nameRun (l .pairs)) (row-bytes row)
+    (below-append (entryRun (namesOf l) (l .pairs)) (nameRun (l .pairs)) (r .0) (r .1))
 
 -- ---- which names are listed
 
@@ -131,9 +121,7 @@ module _ (l : DigestList) (v : valid l ≡ true) (p : Pair) where
 
 before-differs : (xs ys : List ℕ) → before xs ys ≡ true → same xs ys ≡ false
 before-differs xs ys e =
-    alike (same xs ys) false
-    (λ s. absurd (false≢true (sym (before-not-self xs) ∙ ap (before xs) (same-eq xs ys s) ∙ e)))
-    (λ s. absurd (false≢true s))
+    same-apart xs ys (λ s. false≢true (sym (before-not-self xs) ∙ ap (before xs) s ∙ e))
 
 digest-in : (a : List ℕ) (ps : List Pair) → ascending a ps ≡ true → (p : Pair) (i : ℕ) → i < length ps →
     digestIn (getD ps i p .name) ps ≡ getD ps i p .digest
@@ -146,6 +134,6 @@ digest-in a (q ∷ ps) e p (suc i) h =
     (digest-in (q .name) ps t p i (le-of-suc-le-suc h))
 
 pub digest-of-name : (l : DigestList) → valid l ≡ true → (p : Pair) (i : ℕ) → i < length (l .pairs) →
-    digestOf (listBytes l) (getD (l .pairs) i p .name) ≡ getD (l .pairs) i p .digest
-unfolding digestOf
+    listedDigest (listBytes l) (getD (l .pairs) i p .name) ≡ getD (l .pairs) i p .digest
+unfolding listedDigest
 digest-of-name l v p i h = rw (listBytes-accepted l v, read-list l v) (digest-in [] (l .pairs) (valid-list l v .ascends) p i h)

@@ -1,6 +1,6 @@
 -- A walk over the entries by their place in the list: laws of `entriesRight` and `readPairs` where the entries left start at an offset.
--- `entries-on` and `entries-stop` take one entry; `entry-fits` bounds its name; `place-on` compares it with a name that is
--- looked for; `one-less` counts the entries left.
+-- `entry-field` reads a number of an entry; `entries-on` and `entries-stop` take one entry; `entry-fits` bounds its name; `place-on`
+-- compares it with a name that is looked for; `one-less` counts the entries left.
 use mathlib.Core.Bool.{true, false, cond}
 use mathlib.Core.List.{List}
 use mathlib.Core.Path.{_≡_}
@@ -9,13 +9,19 @@ use native.Mathlib.Nat.{suc-mul}
 use native.Mathlib.Omega.{arith}
 use lib.ListN.{length, drop}
 use lib.Seq.{drop-drop}
+use Rattle.bigendian.specs.Rows.{fieldIn}
 use Rattle.lists.specs.declared.Found.{Found}
 use Rattle.lists.specs.Calls.{placeIn}
-use Rattle.lists.specs.Compare.{same}
-use Rattle.lists.specs.Layout.{part, field, entrySize, readPairs}
-use Rattle.lists.specs.Rules.{entryRight, entriesRight}
-use Rattle.lists.proofs.Compare.{cond-both}
+use Rattle.slices.specs.Parts.{part}
+use Rattle.slices.specs.Tests.{same}
+use Rattle.lists.specs.Layout.{entryHead, entrySize, nameLength, readPairs}
+use Rattle.lists.specs.code.Rules.{entryRight, entriesRight}
+use Rattle.slices.proofs.Tests.{cond-both}
 use Rattle.lists.proofs.ByRules.{right-entry}
+
+-- a place in the entry is one in the list
+pub entry-field : (bs : List ℕ) (at place n : ℕ) → fieldIn bs (at + place) n ≡ fieldIn (drop at bs) place n
+entry-field bs at place n = rw (drop-drop place at bs)
 
 pub one-less : (m i n : ℕ) → i < m → (m - i) * n ≡ (m - (i + 1)) * n + n
 one-less m i n h =
@@ -24,13 +30,13 @@ one-less m i n h =
 
 -- n entries from the one at place i on, of which there are m
 module _ (m i size at next : ℕ) (last bs : List ℕ) (h : i < m) where
-  pub entries-on : (len : ℕ) → len ≡ field bs (at + 4) 4 → entryRight last next (drop at bs) bs ≡ true →
+  pub entries-on : (len : ℕ) → len ≡ nameLength (drop at bs) → entryRight last next (drop at bs) bs ≡ true →
       entriesRight (m - i) size last next (drop at bs) bs
       ≡ entriesRight (m - (i + 1)) size (part bs next len) (next + len) (drop (at + size) bs) bs
   unfolding entriesRight
   entries-on len p e =
       let s : m - i ≡ suc (m - (i + 1)) = omega arith in
-      rw (s, e, drop-drop 4 at bs, ← p, drop-drop size at bs)
+      rw (s, e, ← p, drop-drop size at bs)
 
   pub entries-stop : entryRight last next (drop at bs) bs ≡ false → entriesRight (m - i) size last next (drop at bs) bs ≡ false
   unfolding entriesRight
@@ -44,20 +50,20 @@ module _ (m i size at next : ℕ) (last bs : List ℕ) (h : i < m) where
       let s : m - i ≡ suc (m - (i + 1)) = omega arith in
       cond-both (entryRight last next (drop at bs) bs) _ (rw s at e) .0
 
-pub entry-fits : (at next : ℕ) (last bs : List ℕ) (len : ℕ) → len ≡ field bs (at + 4) 4 → entryRight last next (drop at bs) bs ≡ true →
+pub entry-fits : (at next : ℕ) (last bs : List ℕ) (len : ℕ) → len ≡ nameLength (drop at bs) → entryRight last next (drop at bs) bs ≡ true →
     len ≤ length bs - next
-entry-fits at next last bs len p e = rw (p, ← drop-drop 4 at bs) (right-entry last next (drop at bs) bs e .within)
+entry-fits at next last bs len p e = rw p (right-entry last next (drop at bs) bs e .within)
 
 -- the first of the pairs left is the one whose name stands at `next`
-pub place-on : (m i d at next : ℕ) (name last bs : List ℕ) → i < m → (len : ℕ) → len ≡ field bs (at + 4) 4 →
+pub place-on : (m i d at next : ℕ) (name last bs : List ℕ) → i < m → (len : ℕ) → len ≡ nameLength (drop at bs) →
     entryRight last next (drop at bs) bs ≡ true →
     placeIn name d at (readPairs (m - i) d (drop at bs) bs)
-    ≡ cond (same (part bs next len) name) (Found.At (at + 8) d)
+    ≡ cond (same (part bs next len) name) (Found.At (at + entryHead) d)
     (placeIn name d (at + entrySize d) (readPairs (m - (i + 1)) d (drop (at + entrySize d) bs) bs))
 unfolding placeIn readPairs
 place-on m i d at next name last bs h len p e =
     let s : m - i ≡ suc (m - (i + 1)) = omega arith in
-    rw (s, right-entry last next (drop at bs) bs e .offset, drop-drop 4 at bs, ← p, drop-drop (entrySize d) at bs)
+    rw (s, right-entry last next (drop at bs) bs e .offset, ← p, drop-drop (entrySize d) at bs)
 
 pub place-over : (m i d at : ℕ) (name bs : List ℕ) → m ≤ i → placeIn name d at (readPairs (m - i) d (drop at bs) bs) ≡ Found.NotListed
 unfolding placeIn readPairs

@@ -1,41 +1,93 @@
--- The bytes of a digest list: document 01, "Digest list". `listBytes` lays a list out, `readList` reads any bytes where the layout has
--- them, and `accepted` says of any bytes that they are exactly the bytes of a list that is valid.
+-- The bytes of a digest list: SPEC, "Digest list". `listBytes` lays a list out, `readList` reads any bytes where the layout has them, and
+-- `accepted` says of any bytes that they are exactly the bytes of a list that is valid.
 use mathlib.Core.Bool.{Bool}
 use mathlib.Core.List.{List, [], _∷_, _++_}
 use Prim.Native.Nat.{ℕ, zero, suc, _+_, _*_}
-use lib.ListN.{length, take, drop}
-use Rattle.bigendian.specs.BigEndian.{be, number}
+use lib.ListN.{length, drop}
+use Rattle.bigendian.specs.Rows.{Field, _for_is_, rowBytes, fieldIn}
 use Rattle.fips.specs.Editions.{digestBytes}
-use Rattle.lists.specs.Compare.{holds, same}
+use Rattle.slices.specs.Parts.{part}
+use Rattle.slices.specs.Tests.{holds, same}
 use Rattle.lists.specs.Lists.{Pair, DigestList, valid}
+
+-- ---- where things stand
+
+-- a list's own numbers have two bytes, offsets and lengths four
+abbrev pub numberSize : ℕ
+numberSize = 2
+
+abbrev pub offsetSize : ℕ
+offsetSize = 4
+
+-- the fields of the header: edition, how many entries, where the entries begin, where the names begin, how long the list is
+abbrev pub editionAt : ℕ
+editionAt = 0
+
+abbrev pub countAt : ℕ
+countAt = 2
+
+abbrev pub entriesFieldAt : ℕ
+entriesFieldAt = 4
+
+abbrev pub namesFieldAt : ℕ
+namesFieldAt = 8
+
+abbrev pub wholeFieldAt : ℕ
+wholeFieldAt = 12
+
+-- the entries begin where the header ends
+abbrev pub entriesAt : ℕ
+entriesAt = 16
+
+-- the fields of an entry: where its name begins in the list, how long the name is
+abbrev pub nameOffsetAt : ℕ
+nameOffsetAt = 0
+
+abbrev pub nameLengthAt : ℕ
+nameLengthAt = 4
+
+-- its digest stands behind them
+abbrev pub entryHead : ℕ
+entryHead = 8
+
+-- how long an entry is whose digest has d bytes
+abbrev pub entrySize : ℕ → ℕ
+entrySize d = entryHead + d
+
+-- where the names begin behind n such entries
+abbrev pub namesAt : ℕ → ℕ → ℕ
+namesAt n d = entriesAt + n * entrySize d
+
+-- no list is longer: the header, 256 entries with digests of 64 bytes, and as many names of 64 bytes
+unfoldable pub longestList : ℕ
+longestList = 34832
 
 -- ---- laid out
 
--- "name offset from the start of the list (4), name length (4), digest"
+abbrev pub listRow : ℕ → ℕ → ℕ → ℕ → List Field
+listRow edition n names whole =
+    editionAt for numberSize is edition
+    ∷ countAt for numberSize is n
+    ∷ entriesFieldAt for offsetSize is entriesAt
+    ∷ namesFieldAt for offsetSize is names
+    ∷ wholeFieldAt for offsetSize is whole
+    ∷ []
+
+abbrev pub entryRow : ℕ → ℕ → List Field
+entryRow at len = nameOffsetAt for offsetSize is at ∷ nameLengthAt for offsetSize is len ∷ []
+
 unfoldable pub entryBytes : ℕ → Pair → List ℕ
-entryBytes at p = be 4 at ++ be 4 (length (p .name)) ++ p .digest
+entryBytes at p = rowBytes (entryRow at (length (p .name))) ++ p .digest
 
 -- the entries in order, where the first name stands at the offset given and each next one right after it
 unfoldable pub entryRun : ℕ → List Pair → List ℕ
 entryRun at [] = []
 entryRun at (p ∷ ps) = entryBytes at p ++ entryRun (at + length (p .name)) ps
 
--- "names stand back to back in entry order"
+-- the names, one behind the other
 unfoldable pub nameRun : List Pair → List ℕ
 nameRun [] = []
 nameRun (p ∷ ps) = p .name ++ nameRun ps
-
--- how long an entry is whose digest has d bytes
-abbrev pub entrySize : ℕ → ℕ
-entrySize d = 8 + d
-
--- "offset of names 16+n(8+d)"
-abbrev pub namesAt : ℕ → ℕ → ℕ
-namesAt n d = 16 + n * entrySize d
-
--- edition (2), entry count (2), offset of entries 16 (4), offset of names (4), whole length (4)
-unfoldable pub header : ℕ → ℕ → ℕ → ℕ → List ℕ
-header edition n names whole = be 2 edition ++ be 2 n ++ be 4 16 ++ be 4 names ++ be 4 whole
 
 abbrev pub namesOf : DigestList → ℕ
 namesOf l = namesAt (length (l .pairs)) (digestBytes (l .edition))
@@ -44,38 +96,39 @@ abbrev pub wholeLength : DigestList → ℕ
 wholeLength l = namesOf l + length (nameRun (l .pairs))
 
 unfoldable pub listBytes : DigestList → List ℕ
-listBytes l = header (l .edition) (length (l .pairs)) (namesOf l) (wholeLength l) ++ entryRun (namesOf l) (l .pairs) ++ nameRun (l .pairs)
+listBytes l =
+    rowBytes (listRow (l .edition) (length (l .pairs)) (namesOf l) (wholeLength l))
+    ++ (entryRun (namesOf l) (l .pairs) ++ nameRun (l .pairs))
 
 -- ---- read
 
--- n bytes from an offset, fewer where the bytes end before
-abbrev pub part : List ℕ → ℕ → ℕ → List ℕ
-part bs at n = take n (drop at bs)
+abbrev pub editionIn : List ℕ → ℕ
+editionIn bs = fieldIn bs editionAt numberSize
 
--- the number that they make
-abbrev pub field : List ℕ → ℕ → ℕ → ℕ
-field bs at n = number (part bs at n)
+abbrev pub countIn : List ℕ → ℕ
+countIn bs = fieldIn bs countAt numberSize
 
--- the pair of the entry at the front of `entry`, in the list bs
+abbrev pub digestSizeIn : List ℕ → ℕ
+digestSizeIn bs = digestBytes (editionIn bs)
+
+-- of the entry at the front of the bytes
+abbrev pub nameOffset : List ℕ → ℕ
+nameOffset entry = fieldIn entry nameOffsetAt offsetSize
+
+abbrev pub nameLength : List ℕ → ℕ
+nameLength entry = fieldIn entry nameLengthAt offsetSize
+
+-- its pair, in the list bs
 abbrev pub pairAt : ℕ → List ℕ → List ℕ → Pair
-pairAt d entry bs = record { name = part bs (field entry 0 4) (field entry 4 4); digest = part entry 8 d }
+pairAt d entry bs = record { name = part bs (nameOffset entry) (nameLength entry); digest = part entry entryHead d }
 
 -- so many entries, one after the other
 unfoldable pub readPairs : ℕ → ℕ → List ℕ → List ℕ → List Pair
 readPairs zero d entries bs = []
 readPairs (suc n) d entries bs = pairAt d entries bs ∷ readPairs n d (drop (entrySize d) entries) bs
 
-abbrev pub editionIn : List ℕ → ℕ
-editionIn bs = field bs 0 2
-
-abbrev pub countIn : List ℕ → ℕ
-countIn bs = field bs 2 2
-
-abbrev pub digestSizeIn : List ℕ → ℕ
-digestSizeIn bs = digestBytes (editionIn bs)
-
 unfoldable pub readList : List ℕ → DigestList
-readList bs = record { edition = editionIn bs; pairs = readPairs (countIn bs) (digestSizeIn bs) (drop 16 bs) bs }
+readList bs = record { edition = editionIn bs; pairs = readPairs (countIn bs) (digestSizeIn bs) (drop entriesAt bs) bs }
 
 -- ---- judged
 

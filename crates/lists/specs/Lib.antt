@@ -1,6 +1,6 @@
 -- Digest lists: read from the top.
-pub mod Compare
+pub mod Order
 pub mod Lists
 pub mod Layout
 pub mod Calls
-pub mod Rules
+pub mod code

@@ -1,12 +1,13 @@
--- What a digest list says, and when it is one: document 01, "Digest list".
--- An edition, and pairs of a name and its digest; `valid` has the document's conditions on them, and `nameAllowed` those on a name.
+-- What a digest list says, and when it is one: SPEC, "Digest list".
+-- An edition, and pairs of a name and its digest; `valid` has the conditions on them, and `nameAllowed` those on a name.
 use mathlib.Core.Bool.{Bool, true, false, cond}
 use mathlib.Core.List.{List, [], _∷_}
 use Prim.Native.Nat.{ℕ}
-use lib.Dec.{eqb, leb, ltb}
+use lib.Dec.{eqb, leb}
 use lib.ListN.{length}
 use Rattle.fips.specs.Editions.{known, digestBytes}
-use Rattle.lists.specs.Compare.{holds, every, before}
+use Rattle.slices.specs.Tests.{holds, every, allBelow}
+use Rattle.lists.specs.Order.{before}
 
 pub record Pair : Type 0 where
   pub name : List ℕ
@@ -16,32 +17,35 @@ pub record DigestList : Type 0 where
   pub edition : ℕ
   pub pairs : List Pair
 
--- "bytes 0x21 to 0x7e"
+-- house: so many entries at most, and so many bytes of a name
+abbrev pub mostEntries : ℕ
+mostEntries = 256
+
+abbrev pub longestName : ℕ
+longestName = 64
+
+-- a byte that a name may have: one that prints, and no blank
 abbrev pub inName : ℕ → Bool
 inName b = holds (leb 0x21 b ∷ leb b 0x7e ∷ [])
 
--- "name length 1 to 64"
 unfoldable pub nameAllowed : List ℕ → Bool
-nameAllowed name = holds (leb 1 (length name) ∷ leb (length name) 64 ∷ every inName name ∷ [])
-
-abbrev pub isByte : ℕ → Bool
-isByte b = ltb b 256
+nameAllowed name = holds (leb 1 (length name) ∷ leb (length name) longestName ∷ every inName name ∷ [])
 
 -- a name that is allowed, and a digest of d bytes
 unfoldable pub pairAllowed : ℕ → Pair → Bool
-pairAllowed d p = holds (nameAllowed (p .name) ∷ eqb (length (p .digest)) d ∷ every isByte (p .digest) ∷ [])
+pairAllowed d p = holds (nameAllowed (p .name) ∷ eqb (length (p .digest)) d ∷ allBelow 256 (p .digest) ∷ [])
 
--- "strictly ascending in byte order": each name comes after the one before it, the first after the name given
+-- each name comes after the one before it, the first after the name given
 unfoldable pub ascending : List ℕ → List Pair → Bool
 ascending name [] = true
 ascending name (p ∷ ps) = cond (before name (p .name)) (ascending (p .name) ps) false
 
--- edition 1 to 6, 0 to 256 entries, each pair allowed, names ascending; the empty name comes before every other
+-- a known edition, few enough entries, each pair allowed, names ascending; the empty name comes before every other
 unfoldable pub valid : DigestList → Bool
 valid l =
     holds
     (known (l .edition)
-    ∷ leb (length (l .pairs)) 256
+    ∷ leb (length (l .pairs)) mostEntries
     ∷ every (pairAllowed (digestBytes (l .edition))) (l .pairs)
     ∷ ascending [] (l .pairs)
     ∷ [])

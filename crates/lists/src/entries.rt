@@ -1,51 +1,37 @@
 // The entries of a list by number, for one who walks through it. Any bytes are taken: a part that would pass their end is cut there, and
 // what is said of a list holds of the bytes that `is_list` accepts.
-use crate::rules::digest_bytes;
+use crate::fields;
+use crate::fields::number;
+use slices::places::part;
 ghost use mathlib.Core.Path.{_≡_};
-ghost use Prim.Native.Nat.{_≤_, min};
-ghost use Rattle.lists.specs.Layout;
-ghost use Rattle.lists.specs.Layout.{editionIn, countIn, digestSizeIn};
+ghost use Prim.Native.Nat.{_+_, _*_, _^_, _<_};
+ghost use Rattle.lists.specs.Layout.{entriesAt, entrySize, editionIn, countIn, digestSizeIn};
 ghost use Rattle.lists.specs.Calls.{pairIn};
-
-fn least(a: usize, b: usize) -> usize
-    ensures { λ r. ⌜ r ≡ min a b ⌝ }
-{
-    if a < b { a } else { b }
-}
-
-// So many bytes from a place on, as far as the list goes.
-fn part(list: &[u8], at: usize, n: usize) -> &[u8]
-    ensures { λ r. ⌜ now r ≡ Layout.part (now (list .entry)) at n ⌝ }
-{
-    let start = least(at, list.len());
-    let end = start + least(n, list.len() - start);
-    &list[start..end]
-}
-
-// The number that they make.
-fn number(list: &[u8], at: usize, n: usize) -> usize
-    requires { ⌜ n ≤ 8 ⌝ }
-    ensures { λ r. ⌜ r ≡ Layout.field (now (list .entry)) at n ⌝ }
-{
-    bigendian::get(part(list, at, n)) as usize
-}
 
 pub fn edition(list: &[u8]) -> u64
     ensures { λ r. ⌜ r ≡ editionIn (now (list .entry)) ⌝ }
 {
-    number(list, 0, 2) as u64
+    number(list, fields::EDITION_AT, fields::NUMBER) as u64
 }
 
 pub fn count(list: &[u8]) -> usize
     ensures { λ r. ⌜ r ≡ countIn (now (list .entry)) ⌝ }
 {
-    number(list, 2, 2)
+    number(list, fields::COUNT_AT, fields::NUMBER)
 }
 
-fn digest_size(list: &[u8]) -> usize
+pub(crate) fn digest_size(list: &[u8]) -> usize
     ensures { λ r. ⌜ r ≡ digestSizeIn (now (list .entry)) ⌝ }
 {
-    digest_bytes(number(list, 0, 2))
+    fips::lookup::digest_bytes(edition(list))
+}
+
+// Where an entry begins. The count is a number of two bytes, so this is no large number.
+fn entry_at(list: &[u8], i: usize) -> usize
+    requires { ⌜ i < countIn (now list) ⌝ }
+    ensures { λ r. ⌜ (r ≡ entriesAt + i * entrySize (digestSizeIn (now (list .entry)))) × (r < 2 ^ 32) ⌝ }
+{
+    fields::ENTRIES_AT + i * (fields::ENTRY_HEAD + digest_size(list))
 }
 
 // Names are counted from 0; behind the last the part is empty.
@@ -55,8 +41,12 @@ pub fn name(list: &[u8], i: usize) -> &[u8]
     if count(list) <= i {
         return &list[0..0];
     }
-    let at = 16 + i * (8 + digest_size(list));
-    part(list, number(list, at, 4), number(list, at + 4, 4))
+    let at = entry_at(list, i);
+    part(
+        list,
+        number(list, at, fields::OFFSET),
+        fields::name_length(list, at),
+    )
 }
 
 pub fn digest(list: &[u8], i: usize) -> &[u8]
@@ -65,7 +55,6 @@ pub fn digest(list: &[u8], i: usize) -> &[u8]
     if count(list) <= i {
         return &list[0..0];
     }
-    let size = digest_size(list);
-    let at = 16 + i * (8 + size);
-    part(list, at + 8, size)
+    let at = entry_at(list, i);
+    part(list, at + fields::ENTRY_HEAD, digest_size(list))
 }

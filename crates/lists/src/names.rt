@@ -1,7 +1,10 @@
-// Which names a list may have: document 01, "name length 1 to 64" and "bytes 0x21 to 0x7e".
+// Which names a list may have: SPEC, "Digest list".
 ghost use mathlib.Core.Path.{_≡_};
-ghost use Rattle.lists.specs.Compare.{every};
+ghost use Rattle.slices.specs.Tests.{every};
 ghost use Rattle.lists.specs.Lists.{inName, nameAllowed};
+
+// House: the longest name.
+const LONGEST: usize = 64;
 
 fn in_name(b: u8) -> bool
     ensures { λ r. ⌜ r ≡ inName b ⌝ }
@@ -28,7 +31,7 @@ pub(crate) fn allowed(name: &[u8]) -> bool
     if name.len() < 1 {
         return false;
     }
-    if 64 < name.len() {
+    if LONGEST < name.len() {
         return false;
     }
     all_in_name(name)

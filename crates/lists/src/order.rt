@@ -1,27 +1,10 @@
-// Bytes compared: whether they are the same, and which come first in the order of a list's names.
+// Which of two names comes first in the order of a list: SPEC, "Digest list".
 ghost use mathlib.Core.Path.{_≡_};
-ghost use Rattle.lists.specs.Compare;
+ghost use Rattle.lists.specs.Order;
 
-// Bytes of another length differ.
-pub fn same(a: &[u8], b: &[u8]) -> bool
-    ensures { λ r. ⌜ r ≡ Compare.same (now (a .entry)) (now (b .entry)) ⌝ }
-{
-    if a.len() != b.len() {
-        return false;
-    }
-    let mut i = 0;
-    while i < a.len() {
-        if a[i] != b[i] {
-            return false;
-        }
-        i += 1;
-    }
-    true
-}
-
-// Document 01: "ascending in byte order (a proper prefix comes first)".
+// The lesser byte decides at the first difference; without one, the name that ends first is the lesser.
 pub fn before(a: &[u8], b: &[u8]) -> bool
-    ensures { λ r. ⌜ r ≡ Compare.before (now (a .entry)) (now (b .entry)) ⌝ }
+    ensures { λ r. ⌜ r ≡ Order.before (now (a .entry)) (now (b .entry)) ⌝ }
 {
     let mut i = 0;
     while i < a.len() {

@@ -1,4 +1,4 @@
-// Document 01's samples that are not marked P, run through the calls: what each answers, and the digest of the longest message.
+// The samples of SPEC, "Samples", that are not marked P, run through the calls: what each answers, and the digest of the longest message.
 use answers::Answer;
 use bays::calls;
 
@@ -18,7 +18,7 @@ fn say_digest(digest: [u8; 32]) {
     io::write_all(1, b"\n");
 }
 
-// L=30 with N=1 lays out; L=29 is 11. N=64 needs 1,668 words.
+// The shortest run for one bay and for 64, and a word less.
 fn layouts() {
     let mut one = [7u64; 30];
     let mut short = [7u64; 29];
@@ -30,7 +30,7 @@ fn layouts() {
     say(b"N=64 in L=1667", calls::lay_out(&mut nearly, 64));
 }
 
-// The record of edition 2 with c=2^40, which ends at a block, so its tail is empty; its words are the starting words.
+// The record of 2^40 bytes in edition 2. They end at a block, so it has no tail; for its words the edition's starting words serve.
 fn longest() -> [u8; 56] {
     let header = [
         0,
@@ -58,14 +58,14 @@ fn longest() -> [u8; 56] {
         0,
         0,
     ];
-    let start = fips::starting_words(2);
+    let start = sha2::starting::starting_words(2);
     let mut record = [0u8; 56];
-    sha2::front::put_front(&mut record, &header);
+    slices::front::put_front(&mut record, &header);
     bigendian::put_words(&mut record[24..56], &start, 4);
     record
 }
 
-// A loaded bay with c=2^40 takes no bytes but closes with 7 bits; one byte more is 7.
+// At the limit no byte more is taken, but closing bits are.
 fn limits() {
     let record = longest();
     let mut table = [0u64; 30];
@@ -81,7 +81,7 @@ fn limits() {
     say_digest(digest);
 }
 
-// Closing byte 68 with b=4 is 8; output of 31 bytes for edition 2 is 9; both at once is 8.
+// A 1 behind the closing bits, an output too short by a byte, and both: then 8 goes before 9.
 fn closings() {
     let mut table = [0u64; 30];
     let mut out = [0u8; 32];

@@ -1,23 +1,20 @@
 -- The contracts of the functions that lead a file through a bay, out of what the calls state: each is the step of `run` that it makes.
-use Prim.Native.Nat.{ℕ, _≤_}
-use mathlib.Core.Bool.{Bool, true, false, cond}
+use Prim.Native.Nat.{ℕ}
+use mathlib.Core.Bool.{Bool, cond}
 use mathlib.Core.List.{List, []}
-use mathlib.Core.Path.{_≡_, refl, sym, ap, _∙_}
+use mathlib.Core.Path.{_≡_, sym, ap, _∙_}
 use borrow.Author.Tests.{ne-eqb}
 use lib.Dec.{eqb}
-use lib.ListN.{length, take, replicate}
-use Rattle.answers.specs.declared.Answer.{Answer}
-use Rattle.answers.specs.Numbers.{numberOf}
-use Rattle.bays.specs.Calls.{layOut, opening, adding, closing, run}
-use Rattle.bays.proofs.Judging.{Outcome}
+use lib.ListN.{take, replicate}
+use Rattle.bays.specs.Calls.{layOut, opening, adding, closing, run, Outcome}
 use Rattle.bays.proofs.Runs.{runs}
 use Rattle.fips.specs.Editions.{digestBytes}
-use Rattle.lists.specs.Compare.{same}
-use Rattle.report.specs.declared.Verdict.{Verdict}
-use Rattle.report.specs.Files.{begun, fits, afterPiece, afterClose, judged}
+use Rattle.slices.specs.Tests.{same}
+use Rattle.lines.specs.declared.Verdict.{Verdict}
+use Rattle.report.specs.code.Files.{begun, fits, afterPiece, afterClose, judged}
 
 module _ {t : List ℕ} where
-  pub begins : {mid left : List ℕ} {r s : Answer} (e f : ℕ) → Outcome t [] (layOut 1) r mid [] → Outcome mid [] (opening 0 e) s left [] →
+  pub begins : {mid left : List ℕ} {r s : ℕ} (e f : ℕ) → Outcome t (layOut 1) r mid [] → Outcome mid (opening 0 e) s left [] →
       e ≡ f → left ≡ begun t f
   unfolding begun
   begins {mid} e f p q h =
@@ -26,14 +23,14 @@ module _ {t : List ℕ} where
       ∙ ap (λ (g : ℕ). run mid (opening 0 g) .table) (sym h)
       ∙ runs mid (opening 0 e) q .1)
 
-  pub takes : (piece : List ℕ) {left : List ℕ} {r : Answer} (n : ℕ) → Outcome t [] (adding 0 piece) r left [] → n ≡ numberOf r →
+  pub takes : (piece : List ℕ) {left : List ℕ} {r : ℕ} (n : ℕ) → Outcome t (adding 0 piece) r left [] → n ≡ r →
       (eqb n 0 ≡ fits t piece) × (left ≡ afterPiece t piece)
   unfolding fits afterPiece
   takes piece n p h = (rw (h, runs t (adding 0 piece) p .0), sym (runs t (adding 0 piece) p .1))
 
   -- where the bay is not closed, the file is bad
-  pub unclosed : {left to : List ℕ} {r : Answer} (n e : ℕ) (listed : List ℕ) →
-      Outcome t (replicate 64 0) (closing 0 0 0 (replicate 64 0)) r left to → n ≡ numberOf r → (n ≡ 0 → ⊥) →
+  pub unclosed : {left to : List ℕ} {r : ℕ} (n e : ℕ) (listed : List ℕ) →
+      Outcome t (closing 0 0 0 (replicate 64 0)) r left to → n ≡ r → (n ≡ 0 → ⊥) →
       (Verdict.Bad ≡ judged t e listed) × (left ≡ afterClose t)
   unfolding judged afterClose
   unclosed n e listed p h f =
@@ -41,8 +38,8 @@ module _ {t : List ℕ} where
       (rw (ran .0, ← h, ne-eqb n 0 f), sym (ran .1))
 
   -- where it is, the digest decides: `same` answered b
-  pub compares : {left to : List ℕ} {r : Answer} (n e f size : ℕ) (digest listed : List ℕ) (q b : Bool) →
-      Outcome t (replicate 64 0) (closing 0 0 0 (replicate 64 0)) r left to → n ≡ numberOf r → n ≡ 0 →
+  pub compares : {left to : List ℕ} {r : ℕ} (n e f size : ℕ) (digest listed : List ℕ) (q b : Bool) →
+      Outcome t (closing 0 0 0 (replicate 64 0)) r left to → n ≡ r → n ≡ 0 →
       size ≡ digestBytes e → e ≡ f → digest ≡ listed → q ≡ same (take size to) digest → q ≡ b →
       (cond b Verdict.Ok Verdict.Bad ≡ judged t f listed) × (left ≡ afterClose t)
   unfolding judged afterClose

@@ -1,5 +1,3 @@
--- What the checker says: read from the top.
-pub mod Lines
+-- What the checker says of a yard: read from the top.
 pub mod Report
-pub mod Files
-pub mod Program
+pub mod code

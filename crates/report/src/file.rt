@@ -1,10 +1,11 @@
-// A file through a bay: begun, its pieces taken one after the other, and judged at its end. A table of 30 words has room for the bay.
+// A file through the first bay of a table: begun, its pieces taken one after the other, and judged at its end, SPEC, "The program".
+// The caller's table has room for one bay; each contract says what is left of it.
 ghost use mathlib.Core.Path.{_≡_};
 ghost use Rattle.lists.specs.Calls.{pairIn};
 ghost use Rattle.lists.specs.Layout.{editionIn};
-ghost use Rattle.report.specs.Files.{begun, afterPiece, fits, judged, afterClose, endsAs, leftBy};
+ghost use Rattle.report.specs.code.Files.{begun, afterPiece, fits, judged, afterClose, endsAs, leftBy};
 use crate::Ending;
-use crate::Verdict;
+use lines::Verdict;
 use lists::entries;
 
 // The bay is laid out anew, so that nothing of the last file is left.
@@ -15,7 +16,7 @@ pub fn begin(table: &mut [u64], list: &[u8])
     bays::calls::open(table, 0, entries::edition(list));
 }
 
-// Whether the piece was taken: a file of more than 2^40 bytes is not.
+// Whether the piece was taken: one that makes the file longer than the limit is not.
 pub fn take(table: &mut [u64], piece: &[u8]) -> bool
     ensures { λ r. ⌜ r ≡ fits (now (table .entry)) (now (piece .entry)) ⌝ }
     ensures { λ _. ⌜ now (table .exit) ≡ afterPiece (now (table .entry)) (now (piece .entry)) ⌝ }
@@ -33,8 +34,8 @@ fn judge(table: &mut [u64], list: &[u8], i: usize) -> Verdict
     if answers::number(bays::calls::close(table, 0, 0, 0, &mut out)) != 0 {
         return Verdict::Bad;
     }
-    let size = sha2::hashing::digest_bytes(entries::edition(list));
-    if lists::order::same(&out[..size], entries::digest(list, i)) {
+    let size = fips::lookup::digest_bytes(entries::edition(list));
+    if slices::same::same_bytes(&out[..size], entries::digest(list, i)) {
         return Verdict::Ok;
     }
     Verdict::Bad

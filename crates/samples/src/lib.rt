@@ -1,1 +1,1 @@
-// Document 01's samples marked P hold no code: the table is specs/Samples.antt, and its claim is proved in proofs/Claim.antt.
+// No code: the samples marked P, SPEC, "Samples", are the table of specs/Samples.antt, and proofs/Claim.antt proves its claim.

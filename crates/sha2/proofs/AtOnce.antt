@@ -1,43 +1,30 @@
 -- Hash at once: what its tests tell, and that finishing the whole message from the starting words gives the standard's digest.
 -- Main: `digest-at-once`.
-use Prim.Native.Nat.{ℕ, zero, suc, _+_, _-_, _*_, _%_, _^_, _≤_, _<_}
+use Prim.Native.Nat.{ℕ, _+_, _-_, _*_, _%_, _^_, _≤_, _<_}
 use mathlib.Core.Bool.{Bool, true, false, _&&_, false≢true}
-use mathlib.Core.List.{List, [], _∷_, _++_, append-assoc}
+use mathlib.Core.List.{List, _∷_, _++_, append-assoc}
 use mathlib.Core.Path.{_≡_, refl, sym, ap, ap₂, _∙_}
-use native.Mathlib.Nat.{mod-eq-of-lt, ne-of-gt}
+use native.Mathlib.Nat.{mod-eq-of-lt}
 use native.Mathlib.Omega.{arith}
 use lib.Dec.{leb, eqb}
 use lib.ListN.{length, take, replicate}
 use borrow.Author.Tests.{leb-true}
-use Rattle.bigendian.specs.BigEndian.{be, Bytes}
+use Rattle.bigendian.specs.BigEndian.{be}
+use Rattle.slices.specs.Below.{Bytes}
 use Rattle.bigendian.specs.Words.{fromWords}
 use Rattle.fips.specs.Words.{Width}
 use Rattle.fips.specs.Padding.{zeros}
 use Rattle.fips.specs.Constants.{chain}
-use Rattle.fips.specs.Editions.{known, width, digestBytes, start, digest}
-use Rattle.fips.specs.ByteForm.{message, closed, ending, parseBytes, hashBytes, digestOfBytes}
+use Rattle.fips.specs.Editions.{width, digestBytes, start, digest}
+use Rattle.fips.specs.Message.{message}
+use Rattle.fips.specs.code.ByteForm.{closingByte, ending, parseBytes, hashBytes, digestOfBytes}
 use Rattle.fips.proofs.ByteForm.{digest-bytes}
-use Rattle.fips.proofs.Editions.{digest-none, digest-some}
 use Rattle.fips.proofs.Rules.{start-lt}
-use Rattle.sha2.specs.Hash.{closingFits}
-use Rattle.sha2.specs.Hashing.{fit, lastBytes, finished, digestFrom}
+use Rattle.sha2.specs.Closing.{closingFits}
+use Rattle.sha2.specs.code.Hashing.{lastBytes, finished, digestFrom}
 use Rattle.sha2.proofs.Widths.{fit-same}
 
 -- ---- the tests
-
-pub size-unknown : (e n : ℕ) → n ≡ digestBytes e → n ≡ 0 → known e ≡ false
-size-unknown e n p z = go (known e) refl
-  where
-    go : (k : Bool) → known e ≡ k → k ≡ false
-    go false q = refl
-    go true q = absurd (omega (arith, digest-some e q))
-
-pub size-known : (e n : ℕ) → n ≡ digestBytes e → (n ≡ 0 → ⊥) → known e ≡ true
-size-known e n p z = go (known e) refl
-  where
-    go : (k : Bool) → known e ≡ k → k ≡ true
-    go true q = refl
-    go false q = absurd (z (p ∙ digest-none e q))
 
 pub closing-few : (x b : ℕ) → closingFits x b ≡ true → b ≤ 7
 unfolding closingFits
@@ -51,7 +38,8 @@ closing-few x b p = go (leb b 7) refl p
 
 whole-message : (p : Width) (bytes : List ℕ) (x b : ℕ) → lastBytes p (length bytes) bytes x b ≡ bytes ++ ending p (length bytes) x b
 unfolding lastBytes ending
-whole-message p bytes x b = append-assoc bytes (closed x b ∷ replicate (zeros (p .bytes) (length bytes)) 0) (be (2 * p .bytes) (8 * length bytes + b))
+whole-message p bytes x b = append-assoc bytes (closingByte x b ∷ replicate (zeros (p .bytes) (length bytes)) 0)
+    (be (2 * p .bytes) (8 * length bytes + b))
 
 pub digest-at-once : (e : ℕ) (bytes : List ℕ) (x b : ℕ) → Bytes bytes → x < 256 → b ≤ 7 →
     digestFrom e (finished e (start e) (length bytes) bytes x b) ≡ digest e (message bytes x b)

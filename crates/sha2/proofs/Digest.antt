@@ -1,20 +1,16 @@
 -- The digest that the last words make, taken from a buffer of 64 bytes: laws of `digestFrom`.
-use Prim.Native.Nat.{ℕ, _*_, _≤_, _<_}
+use Prim.Native.Nat.{ℕ, _*_}
 use mathlib.Core.List.{List}
-use mathlib.Core.Path.{_≡_, sym, ap, _∙_}
+use mathlib.Core.Path.{_≡_, ap, _∙_}
 use native.Mathlib.Omega.{arith}
-use lib.ListN.{length, take, drop, replicate, length-take}
+use lib.ListN.{length, take, replicate, length-take}
 use lib.Seq.{take-append-le}
 use Rattle.bigendian.specs.Words.{fromWords, withWords}
 use Rattle.bigendian.proofs.Words.{withWords-room, length-fromWords}
 use Rattle.fips.specs.Editions.{width, digestBytes}
 use Rattle.fips.proofs.Editions.{digest-within, width-some}
-use Rattle.sha2.specs.Hashing.{isNarrow, widthOf, digestFrom}
-use Rattle.sha2.proofs.Last.{thin-bytes}
-use Rattle.sha2.proofs.Widths.{width-of}
-
-pub bytes-within : (e : ℕ) → width e .bytes ≤ 8
-bytes-within e = rw (width-of e) (thin-bytes (isNarrow e) .1)
+use Rattle.sha2.specs.code.Hashing.{digestFrom}
+use Rattle.fips.proofs.Sizes.{bytes-within}
 
 pub length-digestFrom : (e : ℕ) (H : List ℕ) → length H ≡ 8 → length (digestFrom e H) ≡ digestBytes e
 unfolding digestFrom

@@ -1,34 +1,35 @@
 -- A message is finished from its tail's whole blocks and its rest: laws of `absorbed` and `finished`. Main: `finished-split`.
-use Prim.Native.Nat.{ℕ, _+_, _-_, _*_, _/_, _%_, _^_, _≤_, _<_}
+use Prim.Native.Nat.{ℕ, _+_, _-_, _*_, _/_, _%_, _<_}
 use mathlib.Core.Bool.{Bool}
-use mathlib.Core.List.{List, [], _∷_, _++_, append-assoc}
+use mathlib.Core.List.{List, _++_, append-assoc}
 use mathlib.Core.Path.{_≡_, refl, sym, ap, ap₂, _∙_}
 use native.Mathlib.Nat.{div-add-mod', mod-lt, mod-le}
 use native.Mathlib.Omega.{arith}
-use lib.ListN.{length, take, drop, replicate, length-append, length-take, length-drop, take-append-drop}
+use lib.ListN.{length, take, drop, length-append, length-drop, take-append-drop}
 use lib.Seq.{length-take-le, take-all}
-use Rattle.bigendian.specs.BigEndian.{be, Below}
-use Rattle.fips.specs.Words.{Width, word}
+use Rattle.fips.specs.Words.{Width, blockBytes}
 use Rattle.fips.specs.Padding.{zeros}
-use Rattle.fips.specs.Constants.{chain, roundWords}
-use Rattle.fips.specs.ByteForm.{closed, blockBytes, parseBytes}
+use Rattle.fips.specs.Constants.{chain}
+use Rattle.fips.specs.code.ByteForm.{parseBytes}
 use Rattle.fips.specs.Editions.{width}
 use Rattle.fips.proofs.Editions.{width-some}
 use Rattle.fips.proofs.Padding.{zeros-period}
-use Rattle.sha2.specs.Hashing.{isNarrow, widthOf, fit, absorbed, lastLength, lastBytes, finished}
-use Rattle.sha2.proofs.Blocks.{blocks-lt}
-use Rattle.sha2.proofs.Parse.{parse-rest, absorb-append}
-use Rattle.sha2.proofs.Widths.{width-of, fit-same, fit-below}
+use Rattle.fips.specs.Sizes.{isNarrow, widthOf}
+use Rattle.sha2.specs.code.Hashing.{fit, absorbed, lastLength, lastBytes, finished}
+use Rattle.blockrule.proofs.Parse.{parse-rest, absorb-append}
+use Rattle.fips.proofs.Sizes.{width-of}
+use Rattle.sha2.proofs.Widths.{fit-same}
+use Rattle.sha2.proofs.Absorbed.{absorbed-below}
 
--- what is absorbed has words of the edition's width
-pub absorbed-below : (e : ℕ) (H bytes : List ℕ) → Below (2 ^ word (width e)) (absorbed e H bytes)
-unfolding absorbed
-absorbed-below e H bytes =
-    let p = width e in
-    blocks-lt p (roundWords p) (fit p H) (parseBytes p bytes) (fit-below p H)
+-- finishing absorbs the last bytes
+pub finished-absorbed : (e : ℕ) (H : List ℕ) (c : ℕ) (tail : List ℕ) (x b : ℕ) →
+    finished e H c tail x b ≡ absorbed e H (lastBytes (width e) c tail x (b % 8))
+unfolding finished absorbed
+finished-absorbed e H c tail x b = refl
 
 -- whole blocks before a tail come before its last bytes
-last-after : (p : Width) (c k : ℕ) (a t : List ℕ) (x b : ℕ) → length a ≡ k * blockBytes p → lastBytes p c (a ++ t) x b ≡ a ++ lastBytes p c t x b
+last-after : (p : Width) (c k : ℕ) (a t : List ℕ) (x b : ℕ) → length a ≡ k * blockBytes p →
+    lastBytes p c (a ++ t) x b ≡ a ++ lastBytes p c t x b
 unfolding lastBytes
 last-after p c k a t x b e =
     let same : zeros (p .bytes) (length (a ++ t)) ≡ zeros (p .bytes) (length t) =
@@ -81,5 +82,6 @@ finish-law e H tail c x b last {t} {n} {k} {end} {h} {out} isT isN isK isLast is
     let back : tail ≡ a ++ r = sym (take-append-drop w tail) in
     isOut
     ∙ ap₂ (absorbed e) (isH ∙ ap (absorbed e H) back) L
-    ∙ finished-split e H c (length tail / n) a r x b (cut n tail ∙ ap (λ (m : ℕ). length tail / n * m) size) (rw (cut-rest n tail, ← size) small)
+    ∙ finished-split e H c (length tail / n) a r x b (cut n tail ∙ ap (λ (m : ℕ). length tail / n * m) size)
+    (rw (cut-rest n tail, ← size) small)
     ∙ ap (λ (q : List ℕ). finished e H c q x b) (sym back)

@@ -1,33 +1,25 @@
 -- The last bytes of a message, as `finish` makes them: laws of `lastBytes`, and of the buffer of two blocks that holds them.
-use Prim.Native.Nat.{ℕ, zero, suc, _+_, _-_, _*_, _/_, _%_, _≤_, _<_}
-use mathlib.Core.Bool.{Bool, true, false}
-use mathlib.Core.List.{List, [], _∷_, _++_, append-assoc, append-nil}
+use Prim.Native.Nat.{ℕ, suc, _+_, _-_, _*_, _≤_, _<_}
+use mathlib.Core.Bool.{Bool}
+use mathlib.Core.List.{List, _∷_, _++_}
 use mathlib.Core.Path.{_≡_, refl, sym, ap, ap₂, _∙_}
 use native.Mathlib.Decide.{decLe}
-use native.Mathlib.Nat.{le-of-suc-le-suc, not-suc-le-zero, lt-of-not-le}
+use native.Mathlib.Nat.{lt-of-not-le}
 use native.Mathlib.Omega.{arith}
-use lib.ListN.{length, take, drop, set, replicate, length-append, length-replicate, length-take, length-drop, drop-of-length-le}
-use lib.ListN.{take-append-drop}
-use lib.Seq.{take-all, take-append-add, set-at, take-at, drop-at}
+use lib.ListN.{length, take, drop, set, replicate, length-append, length-replicate}
+use lib.Seq.{take-all, take-append-add, set-at, take-at}
 use Rattle.bigendian.specs.BigEndian.{be}
 use Rattle.bigendian.proofs.BigEndian.{length-be}
-use Rattle.fips.specs.Words.{Width, w32, w64}
+use Rattle.fips.specs.Words.{Width, blockBytes}
 use Rattle.fips.specs.Padding.{zeros}
-use Rattle.fips.specs.ByteForm.{closed, blockBytes}
-use Rattle.fips.proofs.Padding.{zeros-one, zeros-two, zeros-period}
-use Rattle.sha2.specs.AtFront.{atFront}
-use Rattle.sha2.specs.Hashing.{widthOf, lastBytes, lastLength}
-use Rattle.sha2.proofs.AtFront.{atFront-room}
+use Rattle.fips.specs.code.ByteForm.{closingByte}
+use Rattle.fips.proofs.Padding.{zeros-one, zeros-two}
+use Rattle.slices.specs.AtFront.{atFront}
+use Rattle.fips.specs.Sizes.{widthOf}
+use Rattle.sha2.specs.code.Hashing.{lastBytes, lastLength}
+use Rattle.slices.proofs.AtFront.{atFront-room, drop-copies, take-copies, atFront-all}
 use Rattle.sha2.proofs.Length.{be-low}
-
-take-copies : (k m x : ℕ) → k ≤ m → take k (replicate m x) ≡ replicate k x
-take-copies zero m x h = refl
-take-copies (suc k) zero x h = absurd (not-suc-le-zero h)
-take-copies (suc k) (suc m) x h = ap (λ (l : List ℕ). x ∷ l) (take-copies k m x (le-of-suc-le-suc h))
-
-drop-copies : (k m x : ℕ) → drop k (replicate (k + m) x) ≡ replicate m x
-drop-copies k m x =
-    ap (drop k) (sym (lib.ListN.replicate-append-replicate k m x)) ∙ drop-at (replicate k x) (replicate m x) k (length-replicate k x)
+use Rattle.fips.proofs.Sizes.{thin-bytes}
 
 -- ---- the buffer
 
@@ -37,17 +29,11 @@ pub tail-and-byte : (size : ℕ) (tail : List ℕ) (x : ℕ) → length tail ≤
 tail-and-byte size tail x h =
     let n = length tail in
     let room : length tail ≤ length {A = ℕ} (replicate (suc size) 0) = rw (length-replicate {A = ℕ} (suc size) 0) (omega arith) in
-    let split : suc size ≡ n + suc (size - n) = omega arith in
+    let left : suc size - n ≡ suc (size - n) = omega arith in
     ap (λ (l : List ℕ). set l n x)
     (atFront-room tail (replicate (suc size) 0) room
-    ∙ ap (λ (k : ℕ). tail ++ drop n (replicate k 0)) split
-    ∙ ap (λ (l : List ℕ). tail ++ l) (drop-copies n (suc (size - n)) 0))
+    ∙ ap (λ (l : List ℕ). tail ++ l) (drop-copies n (suc size) 0 ∙ ap (λ (k : ℕ). replicate k 0) left))
     ∙ set-at tail 0 (replicate (size - n) 0) x n refl
-
--- a part of a buffer, filled whole
-full : (f part : List ℕ) → length part ≡ length f → atFront f part ≡ f
-full f part e =
-    atFront-room f part (omega arith) ∙ ap (λ (l : List ℕ). f ++ l) (drop-of-length-le part {i = length f} (omega arith)) ∙ append-nil f
 
 -- the length, put into its place behind the zero bytes; nothing before it is touched
 placed : (tail f rest : List ℕ) (x z m : ℕ) → z ≤ m →
@@ -65,10 +51,6 @@ placed tail f rest x z m h =
     ∙ take-append-add P (f ++ rest) (length f)
     ∙ ap (λ (l : List ℕ). P ++ l) (take-at f rest (length f) refl)
 
-pub thin-bytes : (t : Bool) → (0 < widthOf t .bytes) × (widthOf t .bytes ≤ 8)
-thin-bytes true = (omega arith, omega arith)
-thin-bytes false = (omega arith, omega arith)
-
 -- the last bytes fill one block or two
 pub last-one : (p : Width) (n : ℕ) → n + 1 + 2 * p .bytes ≤ blockBytes p → lastLength p n ≡ blockBytes p
 last-one p n h = zeros-one (p .bytes) n h
@@ -78,7 +60,7 @@ last-two p n h k = zeros-two (p .bytes) n h k
 
 -- the buffer with the length in its place holds the last bytes
 pub last-law : (p : Width) (c : ℕ) (tail : List ℕ) (x b : ℕ) (buffer field rest : List ℕ) (start : ℕ) →
-    buffer ≡ tail ++ (closed x b ∷ replicate (255 - length tail) 0) →
+    buffer ≡ tail ++ (closingByte x b ∷ replicate (255 - length tail) 0) →
     field ≡ be (2 * p .bytes) (8 * c + b) →
     start + 2 * p .bytes ≡ lastLength p (length tail) →
     lastLength p (length tail) ≤ 256 →
@@ -91,7 +73,7 @@ last-law p c tail x b buffer field rest start isBuffer isField isStart room =
     let size : length f ≡ 2 * p .bytes = length-be (2 * p .bytes) (8 * c + b) in
     let from : start ≡ n + suc z = omega arith in
     let to : lastLength p n ≡ n + suc z + length f = omega arith in
-    rw (isBuffer, isField, from, to) (placed tail f rest (closed x b) z (255 - n) (omega arith))
+    rw (isBuffer, isField, from, to) (placed tail f rest (closingByte x b) z (255 - n) (omega arith))
 
 pub last-room : (t : Bool) (n : ℕ) → n < blockBytes (widthOf t) → lastLength (widthOf t) n ≤ 256
 last-room t n h = go (decLe (n + 1 + 2 * widthOf t .bytes) (blockBytes (widthOf t)))
@@ -102,11 +84,12 @@ last-room t n h = go (decLe (n + 1 + 2 * widthOf t .bytes) (blockBytes (widthOf 
 
 -- the lower bytes of a 16-byte length, written over a part of their size
 pub field-law : (p : Width) (l : ℕ) {field mid : List ℕ} (part : List ℕ) (skip k : ℕ) →
-    mid ≡ atFront (take k (drop skip field)) part → field ≡ be 16 l → skip + 2 * p .bytes ≡ 16 → k ≡ 16 - skip → length part ≡ 2 * p .bytes →
+    mid ≡ atFront (take k (drop skip field)) part → field ≡ be 16 l → skip + 2 * p .bytes ≡ 16 → k ≡ 16 - skip →
+    length part ≡ 2 * p .bytes →
     mid ≡ be (2 * p .bytes) l
 field-law p l part skip k isMid isField isSkip isSize long =
     let n = 2 * p .bytes in
     let low : drop skip (be 16 l) ≡ be n l = ap (λ (m : ℕ). drop skip (be m l)) (sym isSkip) ∙ be-low skip n l in
     let size : length (be n l) ≡ n = length-be n l in
     isMid
-    ∙ rw (isField, low, take-all k (be n l) (omega arith)) (full (be n l) part (omega arith))
+    ∙ rw (isField, low, take-all k (be n l) (omega arith)) (atFront-all (be n l) part (omega arith))

@@ -1,15 +1,10 @@
--- Laws of the block rule that hold at every width; each function's folder cites them.
-pub mod Fill
-pub mod Load
-pub mod Schedule
-pub mod Rounds
-pub mod Blocks
-pub mod Parse
-pub mod AtFront
+-- Laws of hashing; each function's folder cites them, and so do the layers above.
 pub mod Widths
+pub mod Absorbed
+pub mod Limits
 pub mod Length
 pub mod Digest
 pub mod AtOnce
 pub mod Last
 pub mod Finished
-pub mod Outcomes
+pub mod Settled

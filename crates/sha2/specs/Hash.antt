@@ -1,27 +1,21 @@
--- Hash at once: document 01, "Calls and their numbers": 5, 7, 8, 9 in this order.
-use Prim.Native.Nat.{ℕ, _-_, _%_, _^_}
-use mathlib.Core.Bool.{Bool, _&&_, not}
+-- Hash at once, its refusals in their order and what it leaves: SPEC, "Hash at once" and "Calls and their numbers".
+use Prim.Native.Nat.{ℕ}
+use mathlib.Core.Bool.{not}
 use mathlib.Core.List.{List, [], _∷_}
-use lib.Dec.{leb, ltb, eqb}
+use lib.Dec.{ltb}
 use lib.ListN.{length}
-use Rattle.answers.specs.Judged.{Test, _when_}
+use Rattle.answers.specs.Judged.{Test, _when_, Judged}
 use Rattle.fips.specs.Editions.{known, digestBytes, digest}
-use Rattle.fips.specs.ByteForm.{message}
-use Rattle.sha2.specs.AtFront.{atFront}
-
--- house: a message has at most 2^40 bytes before its closing bits
-abbrev pub limit : ℕ
-limit = 2 ^ 40
-
--- at most 7 closing bits, and no set bit below them
-unfoldable pub closingFits : ℕ → ℕ → Bool
-closingFits closing b = leb b 7 && eqb (closing % 2 ^ (8 - b)) 0
+use Rattle.fips.specs.Message.{message}
+use Rattle.slices.specs.AtFront.{atFront}
+use Rattle.sha2.specs.Closing.{closingFits}
+use Rattle.sha2.specs.Limit.{tooLong}
 
 -- the refusals in order
 unfoldable pub hashTests : ℕ → List ℕ → ℕ → ℕ → List ℕ → List Test
 hashTests e bytes closing b out =
     5 when not (known e)
-    ∷ 7 when ltb limit (length bytes)
+    ∷ 7 when tooLong e 0 (length bytes)
     ∷ 8 when not (closingFits closing b)
     ∷ 9 when ltb (length out) (digestBytes e)
     ∷ []
@@ -29,3 +23,7 @@ hashTests e bytes closing b out =
 -- the digest of the bytes and the closing bits, at the front of the output
 unfoldable pub hashed : ℕ → List ℕ → ℕ → ℕ → List ℕ → List ℕ
 hashed e bytes closing b out = atFront (digest e (message bytes closing b)) out
+
+-- hash at once answered the number n, and left the output as it is then
+abbrev pub Hashes : ℕ → List ℕ → ℕ → ℕ → List ℕ → ℕ → List ℕ → Type 0
+Hashes e bytes closing b out n left = Judged (hashTests e bytes closing b out) out (hashed e bytes closing b out) n left

@@ -1,9 +1,9 @@
-// The closing byte and its bits: document 01 "Padding". A message is whole bytes and then the upper bits of a closing byte.
+// The closing byte and its bits, and the length in bits: SPEC, "Padding".
 ghost use mathlib.Core.Path.{_≡_};
 ghost use Prim.Native.Nat.{_+_, _*_, _%_, _^_, _≤_};
 ghost use Rattle.bigendian.specs.BigEndian.{be};
-ghost use Rattle.fips.specs.ByteForm.{closed};
-ghost use Rattle.sha2.specs.Hash.{closingFits};
+ghost use Rattle.fips.specs.code.ByteForm.{closingByte};
+ghost use Rattle.sha2.specs.Closing.{closingFits};
 
 // 2^k for a k of at most 8.
 fn power(k: u64) -> u64
@@ -13,7 +13,7 @@ fn power(k: u64) -> u64
     1 << k
 }
 
-// At most 7 closing bits, and no set bit below them.
+// Less than a byte of closing bits, and only zeros behind them.
 pub fn closing_fits(closing: u8, bits: u64) -> bool
     ensures { λ r. ⌜ r ≡ closingFits closing bits ⌝ }
 {
@@ -25,7 +25,7 @@ pub fn closing_fits(closing: u8, bits: u64) -> bool
 
 // The closing byte as it is hashed: its upper bits, a 1 bit, zeros. Bits count modulo 8.
 pub fn closed_byte(closing: u8, bits: u64) -> u8
-    ensures { λ r. ⌜ r ≡ closed closing (bits % 8) ⌝ }
+    ensures { λ r. ⌜ r ≡ closingByte closing (bits % 8) ⌝ }
 {
     let count = bits % 8;
     let unit = power(8 - count);

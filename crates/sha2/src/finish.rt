@@ -3,14 +3,16 @@ ghost use mathlib.Core.Path.{_≡_};
 ghost use mathlib.Core.List.{_∷_, _++_};
 ghost use Prim.Native.Nat.{_-_, _%_, _<_};
 ghost use lib.ListN.{length, take, replicate};
-ghost use Rattle.fips.specs.ByteForm.{blockBytes, closed};
-ghost use Rattle.sha2.specs.Hashing.{widthOf, lastLength, lastBytes, finished};
+ghost use Rattle.fips.specs.Words.{blockBytes};
+ghost use Rattle.fips.specs.code.ByteForm.{closingByte};
+ghost use Rattle.fips.specs.Sizes.{widthOf};
+ghost use Rattle.sha2.specs.code.Hashing.{lastLength, lastBytes, finished};
 use crate::closing::closed_byte;
 use crate::closing::length_field;
-use crate::front::put_front;
 use crate::hashing::absorb;
-use crate::hashing::block_size;
-use crate::hashing::narrow;
+use fips::lookup::block_size;
+use fips::lookup::narrow;
+use slices::front::put_front;
 
 // Where the last bytes end: n bytes, the closing byte, zero bytes and the length fill one block or two.
 fn last_end(thin: bool, n: usize) -> usize
@@ -27,7 +29,7 @@ fn last_end(thin: bool, n: usize) -> usize
 // The tail and the closing byte, in a buffer of two blocks.
 fn with_closing(tail: &[u8], closing: u8, bits: u64) -> [u8; 256]
     requires { ⌜ length (now tail) < 128 ⌝ }
-    ensures { λ r. ⌜ r ≡ now (tail .entry) ++ (closed closing (bits % 8) ∷ replicate (255 - length (now (tail .entry))) 0) ⌝ }
+    ensures { λ r. ⌜ r ≡ now (tail .entry) ++ (closingByte closing (bits % 8) ∷ replicate (255 - length (now (tail .entry))) 0) ⌝ }
 {
     let mut buffer = [0u8; 256];
     put_front(&mut buffer, tail);
@@ -39,7 +41,8 @@ fn with_closing(tail: &[u8], closing: u8, bits: u64) -> [u8; 256]
 fn last_bytes(thin: bool, count: u64, tail: &[u8], closing: u8, bits: u64) -> [u8; 256]
     requires { ⌜ length (now tail) < blockBytes (widthOf thin) ⌝ }
     ensures { λ r.
-        ⌜ take (lastLength (widthOf thin) (length (now (tail .entry)))) r ≡ lastBytes (widthOf thin) count (now (tail .entry)) closing (bits % 8) ⌝ }
+        ⌜ take (lastLength (widthOf thin) (length (now (tail .entry)))) r
+        ≡ lastBytes (widthOf thin) count (now (tail .entry)) closing (bits % 8) ⌝ }
 {
     let end = last_end(thin, tail.len());
     let size = block_size(thin) / 8;

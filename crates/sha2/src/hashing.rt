@@ -1,40 +1,9 @@
 // What the layers above build on, for every edition's number, at words of 64 bits: absorbing whole blocks, and the digest.
-// A number that names no edition has the width 64 and a digest of no bytes. Words are converted once a call.
+// Words are converted once a call.
 ghost use mathlib.Core.Path.{_≡_};
 ghost use Rattle.fips.specs.Words.{w32};
-ghost use Rattle.fips.specs.ByteForm.{blockBytes};
-ghost use Rattle.fips.specs.Editions.{digestBytes};
-ghost use Rattle.sha2.specs.AtFront.{atFront};
-ghost use Rattle.sha2.specs.Hashing.{isNarrow, widthOf, fit, absorbed, digestFrom};
-use fips::EditionSizes;
-
-// Whether the edition's words have 32 bits.
-pub fn narrow(edition: u64) -> bool
-    ensures { λ r. ⌜ r ≡ isNarrow edition ⌝ }
-{
-    match fips::sizes(edition) {
-        EditionSizes::Known {
-            word,
-            block: _,
-            digest: _,
-        } => word == 32,
-        EditionSizes::Unknown => false,
-    }
-}
-
-// The bytes of a digest; none where no edition has the number.
-pub fn digest_bytes(edition: u64) -> usize
-    ensures { λ r. ⌜ r ≡ digestBytes edition ⌝ }
-{
-    match fips::sizes(edition) {
-        EditionSizes::Known {
-            word: _,
-            block: _,
-            digest,
-        } => digest as usize,
-        EditionSizes::Unknown => 0,
-    }
-}
+ghost use Rattle.slices.specs.AtFront.{atFront};
+ghost use Rattle.sha2.specs.code.Hashing.{fit, absorbed, digestFrom};
 
 fn narrowed(words: [u64; 8]) -> [u32; 8]
     ensures { λ r. ⌜ r ≡ fit w32 words ⌝ }
@@ -70,21 +39,11 @@ fn widened(words: [u32; 8]) -> [u64; 8]
 pub fn absorb(edition: u64, words: [u64; 8], bytes: &[u8]) -> [u64; 8]
     ensures { λ r. ⌜ r ≡ absorbed edition words (now (bytes .entry)) ⌝ }
 {
-    if narrow(edition) {
-        widened(crate::block32::absorb32(narrowed(words), bytes))
+    if fips::lookup::narrow(edition) {
+        widened(block32::absorb32(narrowed(words), bytes))
     } else {
-        crate::block64::absorb64(words, bytes)
+        block64::absorb64(words, bytes)
     }
-}
-
-// The bytes of a block, by whether words have 32 bits.
-pub fn block_size(thin: bool) -> usize
-    ensures { λ r. ⌜ r ≡ blockBytes (widthOf thin) ⌝ }
-{
-    if thin {
-        return 64;
-    }
-    128
 }
 
 // The digest at the front of an output, as much of it as there is room for.
@@ -92,7 +51,7 @@ pub fn write_digest(edition: u64, words: [u64; 8], out: &mut [u8])
     ensures { λ _. ⌜ now (out .exit) ≡ atFront (digestFrom edition words) (now (out .entry)) ⌝ }
 {
     let mut bytes = [0u8; 64];
-    bigendian::put_words(&mut bytes, &words, block_size(narrow(edition)) / 16);
-    let n = digest_bytes(edition);
-    crate::front::put_front(out, &bytes[..n]);
+    bigendian::put_words(&mut bytes, &words, fips::lookup::block_bytes(edition) / 16);
+    let n = fips::lookup::digest_bytes(edition);
+    slices::front::put_front(out, &bytes[..n]);
 }

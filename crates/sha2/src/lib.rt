@@ -1,8 +1,7 @@
-// Layer 1, hashing: the block functions of FIPS 180-4 at both widths, what the layers above build on, and hash at once.
-pub mod block32; // block32.rt: words of 32 bits, blocks of 64 bytes
-pub mod block64; // block64.rt: words of 64 bits, blocks of 128 bytes
-pub mod front; // front.rt: writing at the front of an output
+// Layer 1, hashing: what the layers above build on for every edition, and hash at once. The block functions stand below, a crate each.
+pub mod limit; // limit.rt: the length limit
 pub mod closing; // closing.rt: the closing byte, its bits, the length
+pub mod starting; // starting.rt: the starting words
 pub mod hashing; // hashing.rt: absorbing blocks and the digest of any edition
 pub mod finish; // finish.rt: the last blocks of a message
 pub mod hash; // hash.rt: hash at once

@@ -1,31 +1,33 @@
--- The hashes of a chunk tree: 32 bytes each, and how hash at once gives them (`hash-law`) of the messages
+-- The hashes of a chunk tree: `nodeBytes` each, and how hash at once gives them (`hash-law`) of the messages
 -- that the code makes in its buffers (`leaf-message`, `parent-message`).
-use Prim.Native.Nat.{ℕ, suc, _+_, _*_, _≤_, min}
-use mathlib.Core.Bool.{Bool, true}
+use Prim.Native.Nat.{ℕ, suc, _+_, _≤_, min}
+use mathlib.Core.Bool.{true, false}
 use mathlib.Core.List.{List, [], _∷_, _++_, append-nil}
 use mathlib.Core.Path.{_≡_, refl, sym, ap, ap₂, _∙_}
 use native.Mathlib.Omega.{arith}
 use lib.ListN.{length, take, drop, length-take, length-drop, drop-of-length-le}
 use lib.Seq.{take-at, drop-at}
 use borrow.Author.Tests.{le-ltb}
-use Rattle.answers.specs.declared.Answer.{Answer}
 use Rattle.answers.specs.Judged.{Judged, first}
-use Rattle.fips.specs.Editions.{known, edition, editions, digestBytes, digest}
+use Rattle.fips.specs.Editions.{known, edition, editions, digestBytes}
 use Rattle.fips.proofs.Digest.{length-digest}
-use Rattle.sha2.specs.AtFront.{atFront}
-use Rattle.sha2.specs.Hash.{limit, closingFits, hashTests, hashed}
-use Rattle.sha2.proofs.AtFront.{atFront-room}
-use Rattle.tree.specs.Root.{nodeBytes, sha256, leaf, parent}
+use Rattle.slices.specs.AtFront.{atFront}
+use Rattle.sha2.specs.Limit.{tooLong}
+use Rattle.sha2.specs.Closing.{closingFits}
+use Rattle.sha2.specs.Hash.{hashTests, hashed}
+use Rattle.slices.proofs.AtFront.{atFront-room, atFront-all}
+use Rattle.tree.specs.code.Held.{pairBytes}
+use Rattle.tree.specs.Root.{nodeEdition, nodeBytes, sha256, leaf, parent}
 
--- ---- 32 bytes
+-- ---- as long as a node
 
-size : digestBytes 2 ≡ nodeBytes
+size : digestBytes nodeEdition ≡ nodeBytes
 unfolding edition editions
 size = refl
 
 pub length-sha256 : (bytes : List ℕ) → length (sha256 bytes) ≡ nodeBytes
 unfolding sha256
-length-sha256 bytes = length-digest 2 _ ∙ size
+length-sha256 bytes = length-digest nodeEdition _ ∙ size
 
 pub length-leaf : (chunk : List ℕ) → length (leaf chunk) ≡ nodeBytes
 unfolding leaf
@@ -35,32 +37,26 @@ pub length-parent : (l r : List ℕ) → length (parent l r) ≡ nodeBytes
 unfolding parent
 length-parent l r = length-sha256 (1 ∷ (l ++ r))
 
--- ---- hash at once, edition 2, whole bytes
+-- ---- hash at once, whole bytes
 
-known-2 : known 2 ≡ true
+known-node : known nodeEdition ≡ true
 unfolding known edition editions
-known-2 = refl
+known-node = refl
 
 fits-none : closingFits 0 0 ≡ true
 unfolding closingFits
 fits-none = refl
 
-none-applies : (bytes out : List ℕ) → length bytes ≤ limit → nodeBytes ≤ length out → first (hashTests 2 bytes 0 0 out) ≡ 0
+none-applies : (bytes out : List ℕ) → tooLong nodeEdition 0 (length bytes) ≡ false → nodeBytes ≤ length out →
+    first (hashTests nodeEdition bytes 0 0 out) ≡ 0
 unfolding hashTests first
-none-applies bytes out h room = rw (known-2, le-ltb limit (length bytes) h, fits-none, size, le-ltb (length out) nodeBytes room)
+none-applies bytes out h room = rw (known-node, h, fits-none, size, le-ltb (length out) nodeBytes room)
 
--- a part of a buffer, filled whole
-pub full : (bytes part : List ℕ) → length part ≡ length bytes → atFront bytes part ≡ bytes
-full bytes part e =
-    atFront-room bytes part (omega arith)
-    ∙ ap (λ (l : List ℕ). bytes ++ l) (drop-of-length-le part {i = length bytes} (omega arith))
-    ∙ append-nil bytes
-
-pub hash-law : (bytes out : List ℕ) {r : Answer} {left : List ℕ} → length bytes ≤ limit → length out ≡ nodeBytes →
-    Judged (hashTests 2 bytes 0 0 out) out (hashed 2 bytes 0 0 out) r left → left ≡ sha256 bytes
+pub hash-law : (bytes out : List ℕ) {n : ℕ} {left : List ℕ} → tooLong nodeEdition 0 (length bytes) ≡ false → length out ≡ nodeBytes →
+    Judged (hashTests nodeEdition bytes 0 0 out) out (hashed nodeEdition bytes 0 0 out) n left → left ≡ sha256 bytes
 unfolding hashed sha256
 hash-law bytes out h long j =
-    j .leaves ∙ rw (none-applies bytes out h (omega arith)) (full (sha256 bytes) out (long ∙ sym (length-sha256 bytes)))
+    j .leaves ∙ rw (none-applies bytes out h (omega arith)) (atFront-all (sha256 bytes) out (long ∙ sym (length-sha256 bytes)))
 
 -- ---- the messages of a leaf and of a parent, in their buffers
 
@@ -78,23 +74,23 @@ leaf-message x bytes room {y} n {end} long isY isEnd =
 
 -- a byte and two nodes, the second written behind the first: y and z are how the parts come back
 abbrev pub behind : ℕ → List ℕ → List ℕ → List ℕ
-behind x y z = x ∷ (take 32 (y ++ []) ++ (z ++ drop 32 (drop 33 (x ∷ (y ++ [])))))
+behind x y z = x ∷ (take nodeBytes (y ++ []) ++ (z ++ drop nodeBytes (drop (1 + nodeBytes) (x ∷ (y ++ [])))))
 
 pub parent-message : (x : ℕ) (left right room : List ℕ) {y z : List ℕ} →
-    length left ≡ nodeBytes → length right ≡ nodeBytes → length room ≡ 64 → y ≡ atFront left room →
-    z ≡ atFront right (take 32 (drop 33 (x ∷ (y ++ [])))) →
+    length left ≡ nodeBytes → length right ≡ nodeBytes → length room ≡ pairBytes → y ≡ atFront left room →
+    z ≡ atFront right (take nodeBytes (drop (1 + nodeBytes) (x ∷ (y ++ [])))) →
     behind x y z ≡ x ∷ (left ++ right)
 parent-message x left right room {y} {z} longL longR long isY isZ =
-    let w = drop 32 room in
-    let rest : length w ≡ 32 = length-drop 32 room ∙ omega arith in
+    let w = drop nodeBytes room in
+    let rest : length w ≡ nodeBytes = length-drop nodeBytes room ∙ omega arith in
     let both : y ++ [] ≡ left ++ w =
     append-nil y ∙ isY ∙ atFront-room left room (omega arith) ∙ ap (λ (k : ℕ). left ++ drop k room) longL in
     let second : z ≡ right =
     isZ
-    ∙ ap (λ (l : List ℕ). atFront right (take 32 (drop 32 l))) both
-    ∙ ap (λ (l : List ℕ). atFront right (take 32 l)) (drop-at left w 32 longL)
-    ∙ full right (take 32 w) (length-take 32 w ∙ omega arith) in
-    ap₂ (λ (l r : List ℕ). x ∷ (take 32 l ++ (r ++ drop 32 (drop 32 l)))) both second
-    ∙ ap₂ (λ (l r : List ℕ). x ∷ (l ++ (right ++ drop 32 r))) (take-at left w 32 longL) (drop-at left w 32 longL)
-    ∙ ap (λ (l : List ℕ). x ∷ (left ++ (right ++ l))) (drop-of-length-le w {i = 32} (omega arith))
+    ∙ ap (λ (l : List ℕ). atFront right (take nodeBytes (drop nodeBytes l))) both
+    ∙ ap (λ (l : List ℕ). atFront right (take nodeBytes l)) (drop-at left w nodeBytes longL)
+    ∙ atFront-all right (take nodeBytes w) (length-take nodeBytes w ∙ omega arith) in
+    ap₂ (λ (l r : List ℕ). x ∷ (take nodeBytes l ++ (r ++ drop nodeBytes (drop nodeBytes l)))) both second
+    ∙ ap₂ (λ (l r : List ℕ). x ∷ (l ++ (right ++ drop nodeBytes r))) (take-at left w nodeBytes longL) (drop-at left w nodeBytes longL)
+    ∙ ap (λ (l : List ℕ). x ∷ (left ++ (right ++ l))) (drop-of-length-le w {i = nodeBytes} (omega arith))
     ∙ ap (λ (l : List ℕ). x ∷ (left ++ l)) (append-nil right)

@@ -6,22 +6,19 @@ use mathlib.Core.Path.{_≡_, refl, sym, ap, ap₂, subst⁻¹, _∙_}
 use native.Mathlib.Nat.{sub-zero}
 use native.Mathlib.Numerals.{add-one}
 use native.Mathlib.Omega.{arith}
-use lib.ListN.{length, take, drop, getD, length-drop}
-use lib.Seq.{take-all, append-snoc, drop-drop}
+use lib.ListN.{length, take, drop, getD}
+use lib.Seq.{append-snoc, drop-drop}
 use Rattle.fips.specs.Bits.{pieces}
 use Rattle.tree.specs.Root.{chunkBytes, nodeBytes, Node, leaf, up, top}
-use Rattle.tree.specs.Held.{held, withNode}
+use Rattle.tree.specs.code.Held.{pairBytes, held, putNode}
 use Rattle.tree.proofs.Levels.{up-pieces, top-one, top-up}
-use Rattle.tree.proofs.Pieces.{length-pieces, held-put, past-put, length-put}
-
--- the rest of a list, lent as a part to its end
-rest-whole : (at : ℕ) (xs : List ℕ) → take (length xs - at) (drop at xs) ≡ drop at xs
-rest-whole at xs = take-all (length xs - at) (drop at xs) (rw (length-drop at xs) (omega arith))
+use Rattle.tree.proofs.Pieces.{length-pieces, held-put}
+use Rattle.slices.proofs.Parts.{partTo, part-all, length-put-in, drop-put}
 
 -- one node more at the end of those that are done, and one fewer in the rest
 moved : (i : ℕ) (node : Node) (buffer : List ℕ) (rest : List Node) →
     length node ≡ nodeBytes → i * nodeBytes + nodeBytes ≤ length buffer →
-    held (i + 1) (withNode i node buffer) ++ rest ≡ held i buffer ++ (node ∷ rest)
+    held (i + 1) (putNode i node buffer) ++ rest ≡ held i buffer ++ (node ∷ rest)
 moved i node buffer rest whole room =
     rw (add-one, held-put i node buffer whole room) (append-snoc (held i buffer) node rest)
 
@@ -31,7 +28,7 @@ moved i node buffer rest whole room =
 pub record Raised (old : List ℕ) (count : ℕ) (buffer : List ℕ) (j : ℕ) : Type 0 where
   pub long : length buffer ≡ length old
   pub within : 2 * j ≤ count + 1
-  pub nodes : held j buffer ++ up (held (count - 2 * j) (drop (64 * j) buffer)) ≡ up (held count old)
+  pub nodes : held j buffer ++ up (held (count - 2 * j) (drop (pairBytes * j) buffer)) ≡ up (held count old)
 
 pub raised-none : (old : List ℕ) (count : ℕ) → Raised old count old 0
 unfolding pieces
@@ -39,35 +36,37 @@ raised-none old count = record { long = refl; within = omega arith; nodes = rw s
 
 raised-one : (old : List ℕ) (count : ℕ) (buffer : List ℕ) (j : ℕ) {node : Node} →
     count * nodeBytes ≤ length old → 2 * j < count → Raised old count buffer j → length node ≡ nodeBytes →
-    node ≡ getD (up (held (count - 2 * j) (drop (64 * j) buffer))) 0 [] → Raised old count (withNode j node buffer) (j + 1)
+    node ≡ getD (up (held (count - 2 * j) (drop (pairBytes * j) buffer))) 0 [] → Raised old count (putNode j node buffer) (j + 1)
 raised-one old count buffer j {node} room h r whole is =
-    let at = 64 * j in
+    let at = pairBytes * j in
     let k = count - 2 * j in
     let fewer : count - 2 * (j + 1) ≡ k - 2 = omega arith in
-    let on : 64 * (j + 1) ≡ at + 64 = omega arith in
+    let on : pairBytes * (j + 1) ≡ at + pairBytes = omega arith in
     let space : j * nodeBytes + nodeBytes ≤ length buffer = omega (arith, r .long) in
-    let rest : drop (64 * (j + 1)) (withNode j node buffer) ≡ drop 64 (drop at buffer) =
-    past-put j node buffer whole space (64 * (j + 1)) (omega arith) ∙ ap (λ (n : ℕ). drop n buffer) on ∙ sym (drop-drop 64 at buffer) in
+    let rest : drop (pairBytes * (j + 1)) (putNode j node buffer) ≡ drop pairBytes (drop at buffer) =
+    drop-put (j * nodeBytes) nodeBytes node buffer whole space (pairBytes * (j + 1)) (omega arith)
+    ∙ ap (λ (n : ℕ). drop n buffer) on ∙ sym (drop-drop pairBytes at buffer) in
     record {
-      long = length-put j node buffer whole space ∙ r .long;
+      long = length-put-in (j * nodeBytes) nodeBytes node buffer whole space ∙ r .long;
       within = omega arith;
       nodes =
-          ap₂ (λ (n : ℕ) (l : List ℕ). held (j + 1) (withNode j node buffer) ++ up (held n l)) fewer rest
-          ∙ moved j node buffer (up (held (k - 2) (drop 64 (drop at buffer)))) whole space
+          ap₂ (λ (n : ℕ) (l : List ℕ). held (j + 1) (putNode j node buffer) ++ up (held n l)) fewer rest
+          ∙ moved j node buffer (up (held (k - 2) (drop pairBytes (drop at buffer)))) whole space
           ∙ ap (λ (ns : List Node). held j buffer ++ ns)
-          (ap (λ (n : Node). n ∷ up (held (k - 2) (drop 64 (drop at buffer)))) is ∙ sym (up-pieces nodeBytes k (drop at buffer) (omega arith)))
+          (ap (λ (n : Node). n ∷ up (held (k - 2) (drop pairBytes (drop at buffer)))) is
+          ∙ sym (up-pieces nodeBytes k (drop at buffer) (omega arith)))
           ∙ r .nodes;
     }
 
 -- the same as the code has it: the rest is lent as a part
 pub raised-more : (old : List ℕ) (count : ℕ) (buffer : List ℕ) (j : ℕ) {node : Node} {new : List ℕ} →
     count * nodeBytes ≤ length old → 2 * j < count → Raised old count buffer j → length node ≡ nodeBytes →
-    node ≡ getD (up (held (count - 2 * j) (take (length buffer - 64 * j) (drop (64 * j) buffer)))) 0 [] →
-    new ≡ withNode j node buffer → Raised old count new (j + 1)
+    node ≡ getD (up (held (count - 2 * j) (partTo (pairBytes * j) buffer))) 0 [] →
+    new ≡ putNode j node buffer → Raised old count new (j + 1)
 raised-more old count buffer j room h r whole is put =
     subst⁻¹ (λ (b : List ℕ). Raised old count b (j + 1)) put
     (raised-one old count buffer j room h r whole
-    (is ∙ ap (λ (l : List ℕ). getD (up (held (count - 2 * j) l)) 0 []) (rest-whole (64 * j) buffer)))
+    (is ∙ ap (λ (l : List ℕ). getD (up (held (count - 2 * j) l)) 0 []) (part-all (pairBytes * j) buffer)))
 
 pub raised-all : (old : List ℕ) (count : ℕ) (buffer : List ℕ) (j : ℕ) → count ≤ 2 * j → Raised old count buffer j →
     held ((count + 1) / 2) buffer ≡ up (held count old)
@@ -77,7 +76,7 @@ raised-all old count buffer j h r =
     let z : count - 2 * j ≡ 0 = omega arith in
     ap (λ (n : ℕ). held n buffer) e
     ∙ sym (append-nil (held j buffer))
-    ∙ ap (λ (n : ℕ). held j buffer ++ up (held n (drop (64 * j) buffer))) (sym z)
+    ∙ ap (λ (n : ℕ). held j buffer ++ up (held n (drop (pairBytes * j) buffer))) (sym z)
     ∙ r .nodes
 
 -- ---- the leaves
@@ -86,7 +85,8 @@ raised-all old count buffer j h r =
 pub record Leaved (bytes : List ℕ) (count : ℕ) (old buffer : List ℕ) (i : ℕ) : Type 0 where
   pub long : length buffer ≡ length old
   pub within : i ≤ count
-  pub nodes : held i buffer ++ map leaf (pieces chunkBytes (count - i) (drop (i * chunkBytes) bytes)) ≡ map leaf (pieces chunkBytes count bytes)
+  pub nodes : held i buffer ++ map leaf (pieces chunkBytes (count - i) (drop (i * chunkBytes) bytes))
+      ≡ map leaf (pieces chunkBytes count bytes)
 
 pub leaved-none : (bytes : List ℕ) (count : ℕ) (old : List ℕ) → Leaved bytes count old old 0
 unfolding pieces
@@ -94,7 +94,7 @@ leaved-none bytes count old = record { long = refl; within = omega arith; nodes 
 
 leaved-one : (bytes : List ℕ) (count : ℕ) (old buffer : List ℕ) (i : ℕ) {node : Node} →
     count * nodeBytes ≤ length old → i < count → Leaved bytes count old buffer i → length node ≡ nodeBytes →
-    node ≡ leaf (take chunkBytes (drop (i * chunkBytes) bytes)) → Leaved bytes count old (withNode i node buffer) (i + 1)
+    node ≡ leaf (take chunkBytes (drop (i * chunkBytes) bytes)) → Leaved bytes count old (putNode i node buffer) (i + 1)
 unfolding pieces
 leaved-one bytes count old buffer i {node} room h r whole is =
     let left = drop (i * chunkBytes) bytes in
@@ -105,10 +105,10 @@ leaved-one bytes count old buffer i {node} room h r whole is =
     let rest : drop ((i + 1) * chunkBytes) bytes ≡ drop chunkBytes left =
     ap (λ (n : ℕ). drop n bytes) on ∙ sym (drop-drop chunkBytes (i * chunkBytes) bytes) in
     record {
-      long = length-put i node buffer whole space ∙ r .long;
+      long = length-put-in (i * nodeBytes) nodeBytes node buffer whole space ∙ r .long;
       within = omega arith;
       nodes =
-          ap (λ (l : List ℕ). held (i + 1) (withNode i node buffer) ++ map leaf (pieces chunkBytes k l)) rest
+          ap (λ (l : List ℕ). held (i + 1) (putNode i node buffer) ++ map leaf (pieces chunkBytes k l)) rest
           ∙ moved i node buffer (map leaf (pieces chunkBytes k (drop chunkBytes left))) whole space
           ∙ ap (λ (n : Node). held i buffer ++ (n ∷ map leaf (pieces chunkBytes k (drop chunkBytes left)))) is
           ∙ ap (λ (n : ℕ). held i buffer ++ map leaf (pieces chunkBytes n left)) (sym one)
@@ -117,12 +117,12 @@ leaved-one bytes count old buffer i {node} room h r whole is =
 
 pub leaved-more : (bytes : List ℕ) (count : ℕ) (old buffer : List ℕ) (i : ℕ) {node : Node} {new : List ℕ} →
     count * nodeBytes ≤ length old → i < count → Leaved bytes count old buffer i → length node ≡ nodeBytes →
-    node ≡ leaf (take chunkBytes (take (length bytes - i * chunkBytes) (drop (i * chunkBytes) bytes))) →
-    new ≡ withNode i node buffer → Leaved bytes count old new (i + 1)
+    node ≡ leaf (take chunkBytes (partTo (i * chunkBytes) bytes)) →
+    new ≡ putNode i node buffer → Leaved bytes count old new (i + 1)
 leaved-more bytes count old buffer i room h r whole is put =
     subst⁻¹ (λ (b : List ℕ). Leaved bytes count old b (i + 1)) put
     (leaved-one bytes count old buffer i room h r whole
-    (is ∙ ap (λ (l : List ℕ). leaf (take chunkBytes l)) (rest-whole (i * chunkBytes) bytes)))
+    (is ∙ ap (λ (l : List ℕ). leaf (take chunkBytes l)) (part-all (i * chunkBytes) bytes)))
 
 pub leaved-all : (bytes : List ℕ) (count : ℕ) (old buffer : List ℕ) (i : ℕ) → count ≤ i → Leaved bytes count old buffer i →
     held count buffer ≡ map leaf (pieces chunkBytes count bytes)

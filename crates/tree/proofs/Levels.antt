@@ -106,7 +106,7 @@ top-up (n ∷ ns) h =
     (climb-enough (length (up level)) (length ns) (up level) (omega arith) (omega (arith, length-up level))
     ∙ ap (climb (length ns)) (sym (higher-up level h)))
 
--- ---- every node has its 32 bytes; past the end a level reads as the hash of the empty message
+-- ---- every node is as long as nodes are; past the end a level reads as the hash of the empty message
 
 abbrev pub Whole : List Node → Type 0
 Whole ns = (i : ℕ) → length (getD ns i (sha256 [])) ≡ nodeBytes

@@ -4,4 +4,4 @@ pub mod Pieces
 pub mod Levels
 pub mod InPlace
 pub mod Root
-pub mod Outcomes
+pub mod Settled

@@ -1,14 +1,15 @@
 -- Pieces of a list, and nodes held back to back as pieces of a buffer. Main: `held-put`, a node put behind those held.
 use Prim.Native.Nat.{ℕ, zero, suc, _+_, _-_, _*_, _≤_}
-use mathlib.Core.List.{List, [], _∷_, _++_, append-assoc}
+use mathlib.Core.List.{List, [], _∷_, _++_}
 use mathlib.Core.Path.{_≡_, refl, sym, ap, ap₂, _∙_}
 use native.Mathlib.Nat.{zero-mul, suc-mul, add-comm}
 use native.Mathlib.Omega.{arith}
-use lib.ListN.{length, take, drop, length-append, length-drop, take-append-drop}
-use lib.Seq.{length-take-le, take-append-le, drop-append-le, drop-append-add, drop-drop, take-at, drop-at}
+use lib.ListN.{length, take, drop, length-drop, take-append-drop}
+use lib.Seq.{length-take-le, take-append-le, drop-append-le, drop-drop}
+use Rattle.slices.proofs.Parts.{part-put}
 use Rattle.fips.specs.Bits.{pieces}
 use Rattle.tree.specs.Root.{nodeBytes, Node}
-use Rattle.tree.specs.Held.{held, nodeAt, withNode}
+use Rattle.tree.specs.code.Held.{held, putNode}
 
 -- ---- pieces
 
@@ -53,51 +54,16 @@ pieces-join n (suc k) xs h =
 
 -- ---- nodes in a buffer
 
-module _ (i : ℕ) (node : Node) (buffer : List ℕ) (whole : length node ≡ nodeBytes) (room : i * nodeBytes + nodeBytes ≤ length buffer) where
-  before : List ℕ
-  before = take (i * nodeBytes) buffer
-
-  length-before : length before ≡ i * nodeBytes
-  unfolding before
-  length-before = length-take-le (i * nodeBytes) buffer (omega arith)
-
-  -- the nodes before it stay
-  held-before : held i (withNode i node buffer) ≡ held i buffer
-  unfolding withNode before
-  held-before =
-      let a = i * nodeBytes in
-      pieces-front nodeBytes i before (node ++ drop nodeBytes (drop a buffer)) (omega (arith, length-before))
-      ∙ sym (pieces-front nodeBytes i before (drop a buffer) (omega (arith, length-before)))
-      ∙ ap (held i) (take-append-drop a buffer)
-
-  -- and it comes behind them
-  pub held-put : held (suc i) (withNode i node buffer) ≡ held i buffer ++ (node ∷ [])
-  unfolding withNode before
-  held-put =
-      let a = i * nodeBytes in
-      let rest = drop nodeBytes (drop a buffer) in
-      let at : nodeAt i (withNode i node buffer) ≡ node =
-      ap (take nodeBytes) (drop-at before (node ++ rest) a length-before) ∙ take-at node rest nodeBytes whole in
-      pieces-snoc nodeBytes i (withNode i node buffer)
-      ∙ ap₂ (λ (ns : List Node) (n : Node). ns ++ (n ∷ [])) held-before at
-
-  -- what lies past it stays
-  pub past-put : (k : ℕ) → i * nodeBytes + nodeBytes ≤ k → drop k (withNode i node buffer) ≡ drop k buffer
-  unfolding withNode before
-  past-put k h =
-      let a = i * nodeBytes in
-      let front = before ++ node in
-      let long : length front ≡ a + nodeBytes = length-append before node ∙ omega (arith, length-before) in
-      let d = k - (a + nodeBytes) in
-      let split : k ≡ length front + d = omega arith in
-      let back : a + nodeBytes + d ≡ k = omega arith in
-      ap (drop k) (sym (append-assoc before node (drop nodeBytes (drop a buffer))) ∙ ap (λ (l : List ℕ). front ++ l) (drop-drop nodeBytes a buffer))
-      ∙ ap (λ (m : ℕ). drop m (front ++ drop (a + nodeBytes) buffer)) split
-      ∙ drop-append-add front (drop (a + nodeBytes) buffer) d
-      ∙ drop-drop d (a + nodeBytes) buffer
-      ∙ ap (λ (m : ℕ). drop m buffer) back
-
-  pub length-put : length (withNode i node buffer) ≡ length buffer
-  unfolding withNode before
-  length-put =
-      simp (length-append, length-drop) (omega (arith, length-before))
+-- a node put behind those held: they stay, and it follows them
+pub held-put : (i : ℕ) (node : Node) (buffer : List ℕ) → length node ≡ nodeBytes → i * nodeBytes + nodeBytes ≤ length buffer →
+    held (suc i) (putNode i node buffer) ≡ held i buffer ++ (node ∷ [])
+held-put i node buffer whole room =
+    let at = i * nodeBytes in
+    let front = take at buffer in
+    let long : length front ≡ at = length-take-le at buffer (omega arith) in
+    let before : held i (putNode i node buffer) ≡ held i buffer =
+    pieces-front nodeBytes i front (node ++ drop nodeBytes (drop at buffer)) (omega arith)
+    ∙ sym (pieces-front nodeBytes i front (drop at buffer) (omega arith))
+    ∙ ap (held i) (take-append-drop at buffer) in
+    pieces-snoc nodeBytes i (putNode i node buffer)
+    ∙ ap₂ (λ (ns : List Node) (n : Node). ns ++ (n ∷ [])) before (part-put at nodeBytes node buffer whole room)

@@ -1,4 +1,5 @@
--- The root of a chunk tree: 32 bytes (`length-root`), the hash of the empty message over no bytes (`root-empty`), the leaf of one chunk.
+-- The root of a chunk tree: as long as a node (`length-root`), over nothing the empty message's hash (`root-empty`), over one chunk
+-- its leaf (`root-one-chunk`).
 use Prim.Native.Nat.{ℕ, _<_, _≤_}
 use mathlib.Core.List.{List, [], _∷_, map}
 use mathlib.Core.Path.{_≡_, refl, ap, _∙_}
@@ -7,7 +8,7 @@ use lib.ListN.{length, take}
 use lib.Seq.{take-all}
 use Rattle.fips.specs.Bits.{pieces}
 use Rattle.tree.specs.Root.{chunkBytes, nodeBytes, chunkCount, Node, sha256, chunks, leaf, climb, top, root}
-use Rattle.tree.specs.Held.{held}
+use Rattle.tree.specs.code.Held.{held}
 use Rattle.tree.proofs.Levels.{leaves-whole, length-top, top-one}
 use Rattle.tree.proofs.Pieces.{length-pieces, joined, pieces-join}
 
@@ -41,7 +42,8 @@ root-one-chunk bytes some few =
     ∙ ap leaf (take-all chunkBytes bytes few)
 
 -- the steps that the code takes: the leaves of all chunks in a buffer, and the node above them
-pub root-steps : (bytes leaves : List ℕ) {r : Node} → held (chunkCount (length bytes)) leaves ≡ map leaf (pieces chunkBytes (chunkCount (length bytes)) bytes) →
+pub root-steps : (bytes leaves : List ℕ) {r : Node} →
+    held (chunkCount (length bytes)) leaves ≡ map leaf (pieces chunkBytes (chunkCount (length bytes)) bytes) →
     r ≡ top (held (chunkCount (length bytes)) leaves) → r ≡ root bytes
 unfolding root chunks
 root-steps bytes leaves placed above = above ∙ ap top placed

@@ -1,3 +1,4 @@
+-- The chunk tree: read from the top.
 pub mod Root
-pub mod Held
 pub mod Tree
+pub mod code

@@ -3,43 +3,54 @@ ghost use mathlib.Core.Path.{_≡_};
 ghost use mathlib.Core.List.{[], map as each};
 ghost use Prim.Native.Nat.{_+_, _*_, _/_, _<_, _≤_};
 ghost use lib.ListN.{length, take, getD};
-ghost use Rattle.answers.specs.Judged.{Judged};
+ghost use Rattle.answers.specs.Numbers.{numberOf};
 ghost use Rattle.fips.specs.Bits.{pieces};
-ghost use Rattle.tree.specs.Held.{held, nodeAt, withNode};
+ghost use Rattle.tree.specs.code.Held.{held, nodeAt, putNode};
 ghost use Rattle.tree.specs.Root.{chunkBytes, nodeBytes, leaf as leafOf, up, top, root as rootOf};
-ghost use Rattle.tree.specs.Tree.{limit, treeTests, rooted};
+ghost use Rattle.tree.specs.Tree.{treeLimit, Trees};
+use crate::node::CHUNK;
+use crate::node::NODE;
 use crate::node::leaf;
 use crate::node::nothing;
 use crate::node::parent;
 use answers::Answer;
-use sha2::front::put_front;
+use slices::front::put_front;
 
-// House: at most 1 MiB, which is the 1,024 chunks that the buffer of nodes has room for.
+// House: at most 1 MiB.
 const LIMIT: usize = 1_048_576;
 
-fn node_at(nodes: &[u8], i: usize) -> [u8; 32]
+// The bytes of the leaves of so many.
+const ROOM: usize = LIMIT / CHUNK * NODE;
+
+// What is added to round bytes up to whole chunks.
+const UP: usize = CHUNK - 1;
+
+// The bytes of two nodes, which have one parent.
+const PAIR: usize = 2 * NODE;
+
+fn node_at(nodes: &[u8], i: usize) -> [u8; NODE]
     requires { ⌜ i * nodeBytes + nodeBytes ≤ length (now nodes) ⌝ }
     ensures { λ r. ⌜ r ≡ nodeAt i (now (nodes .entry)) ⌝ }
 {
-    let start = i * 32;
-    let end = start + 32;
-    let mut node = [0u8; 32];
+    let start = i * NODE;
+    let end = start + NODE;
+    let mut node = [0u8; NODE];
     put_front(&mut node, &nodes[start..end]);
     node
 }
 
 // The node in its place, and every other byte as it was.
-fn put_node(nodes: &mut [u8], i: usize, node: [u8; 32])
+fn put_node(nodes: &mut [u8], i: usize, node: [u8; NODE])
     requires { ⌜ i * nodeBytes + nodeBytes ≤ length (now nodes) ⌝ }
-    ensures { λ _. ⌜ now (nodes .exit) ≡ withNode i node (now (nodes .entry)) ⌝ }
+    ensures { λ _. ⌜ now (nodes .exit) ≡ putNode i node (now (nodes .entry)) ⌝ }
 {
-    let start = i * 32;
-    let end = start + 32;
+    let start = i * NODE;
+    let end = start + NODE;
     put_front(&mut nodes[start..end], &node);
 }
 
-// The rule of a level: the first node of the level above `count` nodes. A lone node is paired with itself.
-fn first_above(nodes: &[u8], count: usize) -> [u8; 32]
+// The rule of a level: the first node of the level above `count` nodes. Where there is one alone, it is left and right.
+fn first_above(nodes: &[u8], count: usize) -> [u8; NODE]
     requires { ⌜ (0 < count) × (count * nodeBytes ≤ length (now nodes)) ⌝ }
     ensures { λ r. ⌜ r ≡ getD (up (held count (now (nodes .entry)))) 0 [] ⌝ }
 {
@@ -58,7 +69,7 @@ fn level(nodes: &mut [u8], count: usize)
 {
     let mut j = 0;
     while 2 * j < count {
-        let start = 64 * j;
+        let start = PAIR * j;
         let node = first_above(&nodes[start..], count - 2 * j);
         put_node(nodes, j, node);
         j += 1;
@@ -84,7 +95,7 @@ fn leaves(map: &[u8], count: usize, nodes: &mut [u8])
 {
     let mut i = 0;
     while i < count {
-        let start = i * 1024;
+        let start = i * CHUNK;
         let node = leaf(&map[start..]);
         put_node(nodes, i, node);
         i += 1;
@@ -92,15 +103,15 @@ fn leaves(map: &[u8], count: usize, nodes: &mut [u8])
 }
 
 // The root of a map within the limit.
-fn root(map: &[u8]) -> [u8; 32]
-    requires { ⌜ length (now map) ≤ limit ⌝ }
+fn root(map: &[u8]) -> [u8; NODE]
+    requires { ⌜ length (now map) ≤ treeLimit ⌝ }
     ensures { λ r. ⌜ r ≡ rootOf (now (map .entry)) ⌝ }
 {
     if map.len() == 0 {
         return nothing();
     }
-    let count = (map.len() + 1023) / 1024;
-    let mut nodes = [0u8; 32768];
+    let count = (map.len() + UP) / CHUNK;
+    let mut nodes = [0u8; ROOM];
     leaves(map, count, &mut nodes);
     rise(&mut nodes, count);
     node_at(&nodes, 0)
@@ -108,14 +119,12 @@ fn root(map: &[u8]) -> [u8; 32]
 
 // The root of the map's chunk tree at the front of the output.
 pub fn tree(map: &[u8], out: &mut [u8]) -> Answer
-    ensures { λ r.
-        ⌜ Judged (treeTests (now (map .entry)) (now (out .entry))) (now (out .entry))
-        (rooted (now (map .entry)) (now (out .entry))) r (now (out .exit)) ⌝ }
+    ensures { λ r. ⌜ Trees (now (map .entry)) (now (out .entry)) (numberOf r) (now (out .exit)) ⌝ }
 {
     if LIMIT < map.len() {
         return Answer::TooLong;
     }
-    if out.len() < 32 {
+    if out.len() < NODE {
         return Answer::ShortOutput;
     }
     let node = root(map);

@@ -1,13 +1,14 @@
-// The checker: document 01, "The program". It reads `yard.man` and the files that it lists from the folder in which it is started, and
-// writes a line for each and the counts. What is said of a file, and in which words, is `report`'s; here files are opened, read and
+// The checker: SPEC, "The program". In the folder where it is started it opens `yard.man` and each file that is named there, and
+// writes a line for each and the counts. What is said of a file is `report`'s and in which words `lines`'; here files are opened, read and
 // closed, and lines are written. Its memory is one list, one piece, one bay and one line, however long the files are.
 mod reading;
 
+use lines::Tally;
+use lines::Verdict;
 use lists::entries;
-use report::Tally;
-use report::Verdict;
 use report::file;
-use report::lines;
+
+const LONGEST_LIST: usize = 34832;
 
 // Writes the line of n bytes at the front of a buffer. One that cannot be written ends the program, so that what is written is always the
 // beginning of what is to be.
@@ -65,7 +66,7 @@ fn check(list: &[u8]) {
 // A buffer of one byte more than the longest list has: bytes that fill it are no list (`list-short` of `lists`), and nor are the no bytes
 // of a list that cannot be read.
 fn main() {
-    let mut buffer = [0u8; 34833];
+    let mut buffer = [0u8; LONGEST_LIST + 1];
     let n = reading::whole(b"yard.man", &mut buffer);
     let list = &buffer[..n];
     if lists::is_list(list) {

@@ -1,4 +1,4 @@
-// Reading: a whole file at once, and a file in pieces through a bay. A read may bring fewer bytes than were asked for, and one that a
+// Reading: a whole file at once, and a file piece by piece into a bay. A read may bring fewer bytes than were asked for, and one that a
 // signal interrupts has failed only for that turn. Nothing says that a file ends, so each loop counts its turns down, from a number that
 // no run uses up.
 ghost use Rattle.io.specs.Counts.{Counts};

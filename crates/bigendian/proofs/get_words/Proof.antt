@@ -10,7 +10,7 @@ use lib.ListN.{length, take, drop, set, length-drop, length-set}
 use lib.Seq.{append-snoc, drop-drop, take-suc-set, take-all}
 use Rattle.bigendian.specs.BigEndian.{number, word64}
 use Rattle.bigendian.specs.Words.{toWords}
-use Rattle.bigendian.proofs.Parts.{take-within, drop-within}
+use Rattle.slices.proofs.Parts.{take-within, drop-within}
 use Rattle.bigendian.proofs.get_words.Statement.{statement}
 use Rattle.bigendian.proofs.get_words.Tie as tie
 

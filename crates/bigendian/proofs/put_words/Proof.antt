@@ -10,7 +10,7 @@ use lib.ListN.{length, getD, take, drop, length-append, length-take, length-drop
 use lib.Seq.{length-take-le}
 use Rattle.bigendian.specs.BigEndian.{be}
 use Rattle.bigendian.specs.Words.{fromWords, fitting, withWords}
-use Rattle.bigendian.proofs.Parts.{part-joins}
+use Rattle.slices.proofs.Parts.{part-joins}
 use Rattle.bigendian.proofs.Words.{length-fromWords, fromWords-take-suc, fitting-le}
 use Rattle.bigendian.proofs.put_words.Statement.{statement}
 use Rattle.bigendian.proofs.put_words.Tie as tie

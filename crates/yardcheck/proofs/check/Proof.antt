@@ -8,7 +8,7 @@ use Rattle.yardcheck.proofs.check.Statement.{statement}
 use Rattle.yardcheck.proofs.check.Tie as tie
 
 abbrev Inv-loop : tie.InvT-loop
-Inv-loop list table₀ tally₀ i₀ table tally i = length table ≡ 30
+Inv-loop list table₀ tally₀ i₀ table tally i = length table ≡ length table₀
 
 abbrev μ-loop : tie.MeasureT-loop
 μ-loop list table₀ tally₀ i₀ table tally i = countIn list - i

@@ -10,7 +10,7 @@ returns c =
     let k = c .before .before .before .before .before .before .before in
     let s = k .before .before .before .before in
     sym
-    (unpacked (s .args .bay .now) _ _ _ _ (s .pre) (search needs) (search needs) (k .copy .ensures)
+    (unpacked (s .args .bay .now) _ _ _ _ (s .pre) (search needs) (search needs) (k .put-words-front .ensures)
     (c .before .before .before .put-words .ensures))
 
 pub unpack-spec : {M : Type 1} → statement M

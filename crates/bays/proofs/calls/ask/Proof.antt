@@ -8,7 +8,7 @@ use Rattle.halfread.specs.State.{sound}
 use Rattle.bays.specs.Calls.{gateTests}
 use Rattle.bays.proofs.Header.{gate-passed}
 use Rattle.bays.proofs.Judging.{ask-stopped, ask-unsound, asked-empty, asked}
-use Rattle.bays.proofs.Refusals.{refuses}
+use Rattle.answers.proofs.Refusals.{refuses}
 use Rattle.bays.proofs.calls.ask.Statement.{statement}
 use Rattle.bays.proofs.calls.ask.Tie as tie
 

@@ -6,7 +6,7 @@ use Rattle.answers.specs.Numbers.{numberOf}
 use Rattle.bays.specs.Calls.{gateTests}
 use Rattle.bays.proofs.Header.{gate-passed}
 use Rattle.bays.proofs.Judging.{load-stopped, load-refused, load-filled, loaded-at}
-use Rattle.bays.proofs.Refusals.{refuses}
+use Rattle.answers.proofs.Refusals.{refuses}
 use Rattle.bays.proofs.calls.load.Statement.{statement}
 use Rattle.bays.proofs.calls.load.Tie as tie
 

@@ -5,14 +5,14 @@ use borrow.Author.Needs.{needs}
 use Rattle.answers.specs.Judged.{first}
 use Rattle.answers.specs.Numbers.{numberOf}
 use Rattle.fips.specs.Editions.{known}
-use Rattle.sha2.proofs.AtOnce.{size-unknown, size-known}
 use Rattle.halfread.specs.declared.HalfRead.{HalfRead}
 use Rattle.bays.specs.Table.{putBay}
 use Rattle.bays.specs.Bay.{bayOf}
 use Rattle.bays.specs.Calls.{gateTests}
 use Rattle.bays.proofs.Header.{gate-passed}
 use Rattle.bays.proofs.Judging.{open-stopped, open-unknown, open-refused, opened-at}
-use Rattle.bays.proofs.Refusals.{refuses}
+use Rattle.answers.proofs.Refusals.{refuses}
+use borrow.Author.Tests.{not-true, not-false}
 use Rattle.bays.proofs.calls.open.Statement.{statement}
 use Rattle.bays.proofs.calls.open.Tie as tie
 
@@ -33,10 +33,10 @@ returns-2 c =
     let e = c .before .before in
     let s = start e in
     open-unknown (s .args .table .now) (s .args .bay) (passed e) (s .args .edition)
-    (size-unknown _ _ (c .before .digest-bytes .ensures) (c .if1 .taken))
+    (sym (c .before .known .ensures) ∙ not-true _ (c .if1 .taken))
 
 is-known : (c : tie.Else1) → known (start (c .before .before) .args .edition) ≡ true
-is-known c = size-known _ _ (c .before .digest-bytes .ensures) (c .if1 .left)
+is-known c = sym (c .before .known .ensures) ∙ not-false _ (c .if1 .left)
 
 vacancy-requires : tie.Need-vacancy-requires
 vacancy-requires c κs = gate-passed _ _ (passed (c .before .before .before)) .whole

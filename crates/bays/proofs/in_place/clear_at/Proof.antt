@@ -4,7 +4,7 @@ use mathlib.Core.Path.{ap, _∙_}
 use lib.ListN.{replicate}
 use borrow.Author.Needs.{needs}
 use Rattle.bays.specs.Table.{putBay}
-use Rattle.bays.proofs.Frames.{part-back, length-part}
+use Rattle.bays.proofs.Frames.{bay-back, length-bay}
 use Rattle.bays.proofs.in_place.clear_at.Statement.{statement}
 use Rattle.bays.proofs.in_place.clear_at.Tie as tie
 
@@ -13,9 +13,9 @@ returns c =
     let s = c .before .before .before .before .before .before in
     let t = s .args .table .now in
     let at = c .before .before .before .before .place .ensures in
-    part-back t (c .before .before .clear .last .0) (s .args .bay) _ at
+    bay-back t (c .before .before .clear .last .0) (s .args .bay) _ at
     ∙ ap (putBay t (s .args .bay))
-    (c .before .before .clear .ensures ∙ ap (λ (n : ℕ). replicate n 0) (length-part t (s .args .bay) _ at (s .pre)))
+    (c .before .before .clear .ensures ∙ ap (λ (n : ℕ). replicate n 0) (length-bay t (s .args .bay) _ at (s .pre)))
 
 pub clear-at-spec : {M : Type 1} → statement M
 clear-at-spec =

@@ -2,14 +2,15 @@
 use mathlib.Core.Path.{ap, _∙_}
 use borrow.Author.Needs.{needs}
 use Rattle.bays.specs.Bay.{isEmpty}
-use Rattle.bays.proofs.Frames.{part-at}
+use Rattle.bays.proofs.Frames.{bay-at}
 use Rattle.bays.proofs.in_place.empty_at.Statement.{statement}
 use Rattle.bays.proofs.in_place.empty_at.Tie as tie
 
 returns : tie.Need-returns
+unfolding isEmpty
 returns c =
     let s = c .before .before .before .before in
-    c .is-empty .ensures ∙ ap isEmpty (part-at (s .args .table .now) (s .args .bay) _ (c .before .before .place .ensures))
+    c .words-zero .ensures ∙ ap isEmpty (bay-at (s .args .table .now) (s .args .bay) _ (c .before .before .place .ensures))
 
 pub empty-at-spec : {M : Type 1} → statement M
 empty-at-spec =

@@ -2,19 +2,19 @@
 use mathlib.Core.Path.{ap, _∙_}
 use borrow.Author.Needs.{needs}
 use Rattle.bays.specs.Bay.{halfOf}
-use Rattle.bays.proofs.Frames.{part-at, length-part}
+use Rattle.bays.proofs.Frames.{bay-at, length-bay}
 use Rattle.bays.proofs.in_place.half_at.Statement.{statement}
 use Rattle.bays.proofs.in_place.half_at.Tie as tie
 
 unpack-requires : tie.Need-unpack-requires
 unpack-requires c κs =
     let s = c .before .before .before in
-    length-part (s .args .table .now) (s .args .bay) _ (c .before .place .ensures) (s .pre)
+    length-bay (s .args .table .now) (s .args .bay) _ (c .before .place .ensures) (s .pre)
 
 returns : tie.Need-returns
 returns c =
     let s = c .before .before .before .before in
-    c .unpack .ensures ∙ ap halfOf (part-at (s .args .table .now) (s .args .bay) _ (c .before .before .place .ensures))
+    c .unpack .ensures ∙ ap halfOf (bay-at (s .args .table .now) (s .args .bay) _ (c .before .before .place .ensures))
 
 pub half-at-spec : {M : Type 1} → statement M
 half-at-spec =

@@ -2,20 +2,20 @@
 use mathlib.Core.Path.{ap, _∙_}
 use borrow.Author.Needs.{needs}
 use Rattle.bays.specs.Table.{putBay}
-use Rattle.bays.proofs.Frames.{part-back, length-part}
+use Rattle.bays.proofs.Frames.{bay-back, length-bay}
 use Rattle.bays.proofs.in_place.put_at.Statement.{statement}
 use Rattle.bays.proofs.in_place.put_at.Tie as tie
 
 pack-requires : tie.Need-pack-requires
 pack-requires c κs =
     let s = c .before .before .before in
-    length-part (s .args .table .now) (s .args .bay) _ (c .before .place .ensures) (s .pre)
+    length-bay (s .args .table .now) (s .args .bay) _ (c .before .place .ensures) (s .pre)
 
 returns : tie.Need-returns
 returns c =
     let s = c .before .before .before .before .before .before in
     let t = s .args .table .now in
-    part-back t (c .before .before .pack .last .0) (s .args .bay) _ (c .before .before .before .before .place .ensures)
+    bay-back t (c .before .before .pack .last .0) (s .args .bay) _ (c .before .before .before .before .place .ensures)
     ∙ ap (putBay t (s .args .bay)) (c .before .before .pack .ensures)
 
 pub put-at-spec : {M : Type 1} → statement M

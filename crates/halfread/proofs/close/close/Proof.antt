@@ -10,12 +10,12 @@ use borrow.Author.Needs.{needs}
 use borrow.Author.Tests.{lt-ltb, le-ltb, not-true, not-false}
 use Rattle.answers.specs.Judged.{first}
 use Rattle.answers.proofs.Outcome.{refused, done}
-use Rattle.sha2.specs.AtFront.{atFront}
-use Rattle.sha2.specs.Hash.{closingFits}
-use Rattle.sha2.specs.Hashing.{finished, digestFrom}
+use Rattle.slices.specs.AtFront.{atFront}
+use Rattle.sha2.specs.Closing.{closingFits}
+use Rattle.sha2.specs.code.Hashing.{finished, digestFrom}
 use Rattle.halfread.specs.declared.HalfRead.{HalfRead}
-use Rattle.halfread.specs.State.{held, sound}
-use Rattle.halfread.specs.Steps.{closeTests, closed}
+use Rattle.halfread.specs.State.{tailLength, sound, tailRoom}
+use Rattle.halfread.specs.Steps.{closeTests, closedDigest}
 use Rattle.halfread.proofs.Sizes.{rest-within}
 use Rattle.halfread.proofs.close.close.Statement.{statement}
 use Rattle.halfread.proofs.close.close.Tie as tie
@@ -47,16 +47,16 @@ returns-3 c =
 array-share-prefix-tail : tie.Need-array-share-prefix-tail
 array-share-prefix-tail c =
     let h = c .before .before .before .before .before .before .before .before .before .before .args .half in
-    let long : length (h .tail) ≡ 128 = search needs in
-    let small : c .before .held .result < 128 = rest-within _ _ (c .before .held .ensures) in
+    let long : length (h .tail) ≡ tailRoom = search needs in
+    let small : c .before .tail-length .result < tailRoom = rest-within _ _ (c .before .tail-length .ensures) in
     omega arith
 
 slice-aggregate-finish : tie.Need-slice-aggregate-finish
 slice-aggregate-finish c = sym (length-take-le _ _ (array-share-prefix-tail (c .before)))
 
-is-closed : (h : HalfRead) (x b : ℕ) {n : ℕ} {H : List ℕ} → n ≡ held h →
-    H ≡ finished (h .edition) (h .words) (h .count) (take n (h .tail)) x b → digestFrom (h .edition) H ≡ closed h x b
-unfolding closed
+is-closed : (h : HalfRead) (x b : ℕ) {n : ℕ} {H : List ℕ} → n ≡ tailLength h →
+    H ≡ finished (h .edition) (h .words) (h .count) (take n (h .tail)) x b → digestFrom (h .edition) H ≡ closedDigest h x b
+unfolding closedDigest
 is-closed h x b p q =
     ap (digestFrom (h .edition)) (q ∙ ap (λ (n : ℕ). finished (h .edition) (h .words) (h .count) (take n (h .tail)) x b) p)
 
@@ -72,7 +72,8 @@ returns-4 c =
     done
     (rw (is-sound (o .before .before), fitting o, ← e3 .before .digest-bytes .ensures, le-ltb _ _ (e3 .if3 .left)))
     (w .write-digest .ensures
-    ∙ ap (λ (l : List ℕ). atFront l (a .out .now)) (is-closed (a .half) (a .closing) (a .bits) (k .held .ensures) (f .finish .ensures)))
+    ∙ ap (λ (l : List ℕ). atFront l (a .out .now))
+    (is-closed (a .half) (a .closing) (a .bits) (k .tail-length .ensures) (f .finish .ensures)))
 
 pub close-spec : {M : Type 1} → statement M
 close-spec =

@@ -11,9 +11,9 @@ use lib.ListN.{length, drop, getD}
 use borrow.Author.Needs.{needs}
 use borrow.Author.Tests.{lt-ltb, le-ltb, not-true, not-false}
 use Rattle.fips.specs.Words.{word}
-use Rattle.sha2.specs.Hashing.{widthOf}
-use Rattle.halfread.specs.Lists.{allBelow}
-use Rattle.halfread.proofs.Lists.{every-turn, every-stop, every-end, below-allBelow}
+use Rattle.fips.specs.Sizes.{widthOf}
+use Rattle.slices.specs.Tests.{allBelow}
+use Rattle.slices.proofs.Tests.{every-turn, every-stop, every-end, below-allBelow}
 use Rattle.halfread.proofs.sound.below_width.Statement.{statement}
 use Rattle.halfread.proofs.sound.below_width.Tie as tie
 

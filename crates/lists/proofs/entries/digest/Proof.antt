@@ -1,8 +1,9 @@
 -- `lists::entries::digest` meets its contract: the digest stands in the entry, behind the two numbers.
-use Prim.Native.Nat.{_+_, _*_, _≤_}
+use Prim.Native.Nat.{_<_}
 use native.Mathlib.Omega.{arith}
 use borrow.Author.Needs.{needs}
-use Rattle.lists.proofs.ByNumber.{entry-far, no-digest, digest-at}
+use Rattle.lists.specs.Layout.{countIn}
+use Rattle.lists.proofs.ByNumber.{no-digest, digest-at}
 use Rattle.lists.proofs.entries.digest.Statement.{statement}
 use Rattle.lists.proofs.entries.digest.Tie as tie
 
@@ -11,24 +12,19 @@ returns c =
     let s = c .before .before in
     no-digest _ (s .before .before .args .list .now) (omega (arith, s .count .ensures, c .before .if1 .taken))
 
-far : (c : tie.After-digest-size) →
-    (8 + c .digest-size .result ≤ 72) × (c .before .before .before .before .args .i * (8 + c .digest-size .result) ≤ 4718592)
-far c =
-    let s = c .before .before in
-    entry-far (s .before .before .args .list .now) _ _ _ (s .count .ensures) (c .digest-size .ensures) (omega (arith, c .before .if1 .left))
-    (λ i. s .before .shared-slice-known .given i .fits)
+inside : (c : tie.Else1) → c .before .before .before .args .i < countIn (c .before .before .before .args .list .now)
+inside c = omega (arith, c .before .count .ensures, c .if1 .left)
 
 returns-2 : tie.Need-returns-2
 returns-2 c =
-    let e = c .before in
+    let e = c .before .before in
     let s = e .before .before in
-    digest-at (s .before .before .args .list .now) _ _ _ (s .count .ensures) (e .digest-size .ensures) (omega (arith, e .before .if1 .left))
-    _ (c .part .ensures)
+    digest-at (s .before .before .args .list .now) _ (inside (e .before)) _ (e .entry-at .ensures .0)
+    _ _ (c .before .digest-size .ensures) (c .part .ensures)
 
 pub digest-spec : {M : Type 1} → statement M
 digest-spec =
     tie.close
     (tie.spec
-    (λ c κs. search needs) (λ c. search needs) (λ c. search needs) (λ c. search needs) returns (λ c κs. search needs)
-    (λ c. omega (arith, far c)) (λ c. omega (arith, far c)) (λ c. omega (arith, far c)) (λ c. omega (arith, far c))
-    (λ c κs. search needs) returns-2)
+    (λ c κs. search needs) (λ c. search needs) (λ c. search needs) (λ c. search needs) returns
+    (λ c κs. inside c) (λ c. omega (arith, c .entry-at .ensures .1)) (λ c κs. search needs) (λ c κs. search needs) returns-2)

@@ -6,7 +6,7 @@ use Rattle.lists.proofs.entries.digest_size.Statement.{statement}
 use Rattle.lists.proofs.entries.digest_size.Tie as tie
 
 returns : tie.Need-returns
-returns c = c .digest-bytes .ensures ∙ ap digestBytes (c .before .number .ensures)
+returns c = c .digest-bytes .ensures ∙ ap digestBytes (c .before .edition .ensures)
 
 pub digest-size-spec : {M : Type 1} → statement M
 digest-size-spec = tie.close (tie.spec (λ c κs. search needs) (λ c κs. search needs) returns)

@@ -2,7 +2,7 @@
 use mathlib.Core.Path.{sym, _∙_}
 use borrow.Author.Tests.{lt-leb, le-leb}
 use Rattle.lists.specs.Lists.{nameAllowed}
-use Rattle.lists.proofs.Compare.{fails-at, holds-on, holds-last}
+use Rattle.slices.proofs.Tests.{fails-at, holds-on, holds-last}
 use Rattle.lists.proofs.names.allowed.Statement.{statement}
 use Rattle.lists.proofs.names.allowed.Tie as tie
 

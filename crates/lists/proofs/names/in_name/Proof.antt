@@ -1,7 +1,7 @@
 -- `lists::names::in_name` meets its contract: where the first bound holds, the second decides.
 use mathlib.Core.Path.{sym, _∙_}
 use borrow.Author.Tests.{le-leb, lt-leb}
-use Rattle.lists.proofs.Compare.{fails-at, holds-on, holds-last}
+use Rattle.slices.proofs.Tests.{fails-at, holds-on, holds-last}
 use Rattle.lists.proofs.names.in_name.Statement.{statement}
 use Rattle.lists.proofs.names.in_name.Tie as tie
 

@@ -8,8 +8,8 @@ use native.Mathlib.Omega.{arith}
 use lib.Dec.{ltb}
 use lib.ListN.{length, getD, drop}
 use borrow.Author.Tests.{eq-eqb, ne-eqb}
-use Rattle.lists.specs.Compare.{before}
-use Rattle.lists.proofs.Compare.{before-on, before-short, before-over}
+use Rattle.lists.specs.Order.{before}
+use Rattle.lists.proofs.Ascending.{before-on, before-short, before-over}
 use Rattle.lists.proofs.order.before.Statement.{statement}
 use Rattle.lists.proofs.order.before.Tie as tie
 

@@ -8,23 +8,24 @@ use native.Mathlib.Omega.{arith}
 use lib.Dec.{eqb}
 use lib.ListN.{length, drop}
 use borrow.Author.Tests.{not-true, not-false}
-use Rattle.lists.specs.Layout.{part, field}
-use Rattle.lists.specs.Rules.{entryRight, entriesRight}
+use Rattle.slices.specs.Parts.{part}
+use Rattle.lists.specs.Layout.{entriesAt, entryHead, nameLength}
+use Rattle.lists.specs.code.Rules.{entryRight, entriesRight}
 use Rattle.lists.proofs.Walk.{one-less, entries-on, entries-stop, entry-fits}
 use Rattle.lists.proofs.rules.entries_right.Statement.{statement}
 use Rattle.lists.proofs.rules.entries_right.Tie as tie
 
 record Left (bs : List ℕ) (count size at next last i : ℕ) : Type 0 where
-  wide : 8 ≤ size
+  wide : entryHead ≤ size
   within : i ≤ count
   room : at + (count - i) * size ≤ length bs
   order : last ≤ next
   inside : next ≤ length bs
-  decides : entriesRight count size [] (16 + count * size) (drop 16 bs) bs
+  decides : entriesRight count size [] (entriesAt + count * size) (drop entriesAt bs) bs
       ≡ entriesRight (count - i) size (part bs last (next - last)) next (drop at bs) bs
 
-start : (bs : List ℕ) (count size : ℕ) → 8 ≤ size → 16 + count * size ≤ length bs →
-    Left bs count size 16 (16 + count * size) (16 + count * size) 0
+start : (bs : List ℕ) (count size : ℕ) → entryHead ≤ size → entriesAt + count * size ≤ length bs →
+    Left bs count size entriesAt (entriesAt + count * size) (entriesAt + count * size) 0
 start bs count size w h = record {
   wide = w;
   within = omega arith;
@@ -38,10 +39,10 @@ module _ (bs : List ℕ) (count size at next last i : ℕ) (f : Left bs count si
   space : i < count → at + size + (count - (i + 1)) * size ≤ length bs
   space h = omega (arith, one-less count i size h, f .room)
 
-  entry-room : i < count → at + 8 ≤ length bs
+  entry-room : i < count → at + entryHead ≤ length bs
   entry-room h = omega (arith, space h, f .wide)
 
-  turn : (len : ℕ) → i < count → len ≡ field bs (at + 4) 4 → entryRight (part bs last (next - last)) next (drop at bs) bs ≡ true →
+  turn : (len : ℕ) → i < count → len ≡ nameLength (drop at bs) → entryRight (part bs last (next - last)) next (drop at bs) bs ≡ true →
       Left bs count size (at + size) (next + len) next (i + 1)
   turn len h p e = record {
     wide = f .wide;
@@ -53,10 +54,10 @@ module _ (bs : List ℕ) (count size at next last i : ℕ) (f : Left bs count si
   }
 
   stop : i < count → entryRight (part bs last (next - last)) next (drop at bs) bs ≡ false →
-      false ≡ entriesRight count size [] (16 + count * size) (drop 16 bs) bs
+      false ≡ entriesRight count size [] (entriesAt + count * size) (drop entriesAt bs) bs
   stop h e = sym (f .decides ∙ entries-stop count i size at next (part bs last (next - last)) bs h e)
 
-  whole : count ≤ i → eqb next (length bs) ≡ entriesRight count size [] (16 + count * size) (drop 16 bs) bs
+  whole : count ≤ i → eqb next (length bs) ≡ entriesRight count size [] (entriesAt + count * size) (drop entriesAt bs) bs
   unfolding entriesRight
   whole h =
       let e : count - i ≡ 0 = omega arith in
@@ -81,20 +82,15 @@ returns c =
     let l = c .before .before in
     stop _ _ _ _ _ _ _ (l .before .loop .inv) (l .loop-test .taken) (sym (c .before .entry-right .ensures) ∙ not-true _ (c .if1 .taken))
 
-add-field : tie.Need-add-field Inv-loop μ-loop
-add-field c =
-    let l = c .before .before in
-    omega (arith, entry-room _ _ _ _ _ _ _ (l .before .loop .inv) (l .loop-test .taken))
-
-field-requires : tie.Need-field-requires Inv-loop μ-loop
-field-requires c κs =
+name-length-requires : tie.Need-name-length-requires Inv-loop μ-loop
+name-length-requires c κs =
     let l = c .before .before in
     omega (arith, entry-room _ _ _ _ _ _ _ (l .before .loop .inv) (l .loop-test .taken))
 
 loop-again : tie.Need-loop-again Inv-loop μ-loop
 loop-again c =
     let l = c .before .before .before in
-    turn _ _ _ _ _ _ _ (l .before .loop .inv) _ (l .loop-test .taken) (c .field .ensures)
+    turn _ _ _ _ _ _ _ (l .before .loop .inv) _ (l .loop-test .taken) (c .name-length .ensures)
     (sym (c .before .before .entry-right .ensures) ∙ not-false _ (c .before .if1 .left))
 
 returns-2 : tie.Need-returns-2 Inv-loop μ-loop
@@ -104,5 +100,5 @@ pub entries-right-spec : {M : Type 1} → statement M
 entries-right-spec =
     tie.close
     (tie.spec
-    Inv-loop μ-loop (λ c. omega arith) (λ c. omega arith) loop-holds entry-right-requires returns add-field field-requires
+    Inv-loop μ-loop (λ c. omega arith) (λ c. omega arith) loop-holds entry-right-requires returns name-length-requires
     (λ c. omega (arith, loop-again c)) (λ c. omega (arith, loop-again c)) (λ c. omega arith) (λ c. omega arith) loop-again returns-2)

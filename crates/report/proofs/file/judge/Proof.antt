@@ -11,8 +11,8 @@ use Rattle.fips.specs.Editions.{digestBytes}
 use Rattle.lists.specs.Calls.{pairIn}
 use Rattle.lists.specs.Layout.{editionIn}
 use Rattle.fips.proofs.Editions.{digest-short}
-use Rattle.report.specs.declared.Verdict.{Verdict}
-use Rattle.report.specs.Files.{judged, afterClose}
+use Rattle.lines.specs.declared.Verdict.{Verdict}
+use Rattle.report.specs.code.Files.{judged, afterClose}
 use Rattle.report.proofs.Through.{unclosed, compares}
 use Rattle.report.proofs.file.judge.Statement.{statement}
 use Rattle.report.proofs.file.judge.Tie as tie
@@ -30,19 +30,19 @@ within c =
     short _ _ (s .close .last .1 .1 .1 .1 .0) (c .digest-bytes .ensures) (s .close .kept .1 .1 .1 .1 .0)
 
 -- what is left of a file whose bay is closed and compared, with that verdict
-abbrev Ends : tie.After-same → Verdict → Type 0
+abbrev Ends : tie.After-same-bytes → Verdict → Type 0
 Ends c v =
     let k = c .before .before .before .before .before .before .before .before .before .before in
     let a = k .before .before .before .before .before .args in
     (v ≡ judged (a .table .now) (editionIn (a .list .now)) (pairIn (a .i) (a .list .now) .digest))
     × (k .close .last .0 ≡ afterClose (a .table .now))
 
-decided : (c : tie.After-same) (b : Bool) → c .same .result ≡ b → Ends c (cond b Verdict.Ok Verdict.Bad)
+decided : (c : tie.After-same-bytes) (b : Bool) → c .same-bytes .result ≡ b → Ends c (cond b Verdict.Ok Verdict.Bad)
 decided c b e =
     let d = c .before .before .before in
     let n = d .before .before .before in
     compares _ _ _ _ _ _ _ _ (n .before .before .before .before .close .ensures) (n .number .ensures) (d .before .before .if1 .left)
-    (d .digest-bytes .ensures) (d .before .edition .ensures) (c .before .digest .ensures) (c .same .ensures) e
+    (d .digest-bytes .ensures) (d .before .edition .ensures) (c .before .digest .ensures) (c .same-bytes .ensures) e
 
 pub judge-spec : {M : Type 1} → statement M
 judge-spec =

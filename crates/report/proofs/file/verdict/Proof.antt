@@ -1,7 +1,7 @@
 -- `report::file::verdict` meets its contract.
 use mathlib.Core.Path.{refl}
 use borrow.Author.Needs.{needs}
-use Rattle.report.specs.Files.{endsAs, leftBy}
+use Rattle.report.specs.code.Files.{endsAs, leftBy}
 use Rattle.report.proofs.file.verdict.Statement.{statement}
 use Rattle.report.proofs.file.verdict.Tie as tie
 

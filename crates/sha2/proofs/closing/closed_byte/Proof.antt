@@ -1,16 +1,16 @@
 -- `sha2::closing::closed_byte` meets its contract: the sum is the definition's, which is below 256. Assumes nothing.
 use Prim.Native.Nat.{ℕ, _+_, _-_, _*_, _/_, _%_, _^_, _<_}
 use mathlib.Core.Path.{_≡_, sym, subst}
-use native.Mathlib.Nat.{div-mul-le-self, lt-of-le-of-lt, lt-trans}
+use native.Mathlib.Nat.{div-mul-le-self}
 use native.Mathlib.Omega.{arith}
 use lib.Pow.{pow-pos}
 use borrow.Author.Needs.{needs}
-use Rattle.fips.specs.ByteForm.{closed}
+use Rattle.fips.specs.code.ByteForm.{closingByte}
 use Rattle.fips.proofs.ByteForm.{closed-lt}
 use Rattle.sha2.proofs.closing.closed_byte.Statement.{statement}
 use Rattle.sha2.proofs.closing.closed_byte.Tie as tie
 
-is-closed : (x b u o : ℕ) → u ≡ 2 ^ (8 - b) → o ≡ 2 ^ (7 - b) → x / u * u + o ≡ closed x b
+is-closed : (x b u o : ℕ) → u ≡ 2 ^ (8 - b) → o ≡ 2 ^ (7 - b) → x / u * u + o ≡ closingByte x b
 is-closed x b u o p q = rw (p, q)
 
 small : (x b u o : ℕ) → u ≡ 2 ^ (8 - b) → o ≡ 2 ^ (7 - b) → x < 256 → b < 8 → x / u * u + o < 256

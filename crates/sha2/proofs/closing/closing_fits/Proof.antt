@@ -4,7 +4,7 @@ use native.Mathlib.Omega.{arith}
 use lib.Pow.{pow-pos}
 use borrow.Author.Needs.{needs}
 use borrow.Author.Tests.{le-leb, lt-leb}
-use Rattle.sha2.specs.Hash.{closingFits}
+use Rattle.sha2.specs.Closing.{closingFits}
 use Rattle.sha2.proofs.closing.closing_fits.Statement.{statement}
 use Rattle.sha2.proofs.closing.closing_fits.Tie as tie
 

@@ -1,13 +1,13 @@
 -- `sha2::finish::finish` meets its contract: the tail's whole blocks are absorbed, then the last bytes of its rest. Assumes nothing.
-use Prim.Native.Nat.{_%_, _<_, _≤_}
-use mathlib.Core.Path.{_≡_, refl, sym, _∙_}
+use Prim.Native.Nat.{_%_, _<_}
+use mathlib.Core.Path.{_≡_, refl, sym}
 use native.Mathlib.Nat.{mod-lt, mod-le}
 use native.Mathlib.Omega.{arith}
-use lib.ListN.{length, take, length-take, length-drop}
+use lib.ListN.{length, length-take, length-drop}
 use lib.Seq.{length-take-le}
 use borrow.Author.Needs.{needs}
-use Rattle.sha2.specs.Hashing.{widthOf}
-use Rattle.sha2.proofs.Last.{thin-bytes, last-room}
+use Rattle.fips.proofs.Sizes.{thin-bytes}
+use Rattle.sha2.proofs.Last.{last-room}
 use Rattle.sha2.proofs.Finished.{finish-law}
 use Rattle.sha2.proofs.finish.finish.Statement.{statement}
 use Rattle.sha2.proofs.finish.finish.Tie as tie
@@ -31,7 +31,8 @@ last-end-requires : tie.Need-last-end-requires
 last-end-requires c κs =
     let n = c .before .before .before .block-size .result in
     let tail = c .before .before .before .before .before .before .args .tail .now in
-    let some : 0 < n = omega (arith, thin-bytes (c .before .before .before .before .narrow .result), c .before .before .before .block-size .ensures) in
+    let some : 0 < n =
+    omega (arith, thin-bytes (c .before .before .before .before .narrow .result), c .before .before .before .block-size .ensures) in
     omega (arith, mod-lt (length tail) some, c .before .before .before .block-size .ensures)
 
 array-share-prefix-last : tie.Need-array-share-prefix-last

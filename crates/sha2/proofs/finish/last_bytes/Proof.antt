@@ -1,11 +1,12 @@
 -- `sha2::finish::last_bytes` meets its contract: the length goes to its place behind the zero bytes. Assumes nothing.
-use Prim.Native.Nat.{ℕ, _+_, _-_, _*_, _/_, _%_, _≤_}
+use Prim.Native.Nat.{_+_, _-_, _*_, _/_, _%_}
 use mathlib.Core.Path.{_≡_, refl, _∙_}
 use native.Mathlib.Omega.{arith}
 use lib.ListN.{length, take, drop, length-take, length-drop}
 use borrow.Author.Needs.{needs}
-use Rattle.sha2.specs.Hashing.{widthOf}
-use Rattle.sha2.proofs.Last.{thin-bytes, last-room, last-law, field-law}
+use Rattle.fips.specs.Sizes.{widthOf}
+use Rattle.fips.proofs.Sizes.{thin-bytes}
+use Rattle.sha2.proofs.Last.{last-room, last-law, field-law}
 use Rattle.sha2.proofs.finish.last_bytes.Statement.{statement}
 use Rattle.sha2.proofs.finish.last_bytes.Tie as tie
 
@@ -35,11 +36,13 @@ returns c =
     let thin = thin-bytes (s .args .thin) in
     let eighth : size .result / 8 ≡ 2 * p .bytes = omega (arith, size .ensures) in
     let start : end .result - size .result / 8 + 2 * p .bytes ≡ end .result = omega (arith, end .ensures) in
-    let part : length (take (end .result - (end .result - size .result / 8)) (drop (end .result - size .result / 8) (buffer .result))) ≡ 2 * p .bytes =
+    let part : length (take (end .result - (end .result - size .result / 8)) (drop (end .result - size .result / 8) (buffer .result)))
+    ≡ 2 * p .bytes =
     simp (length-take, length-drop) (omega (arith, end .ensures)) in
     last-law p (s .args .count) tail (s .args .closing) (s .args .bits % 8) (buffer .result) (c .before .put-front .last .0) _
     (end .result - size .result / 8) (buffer .ensures)
-    (field-law p l _ (16 - size .result / 8) (16 - (16 - size .result / 8)) (c .before .put-front .ensures) (c .before .before .before .before .before .length-field .ensures)
+    (field-law p l _ (16 - size .result / 8) (16 - (16 - size .result / 8)) (c .before .put-front .ensures)
+    (c .before .before .before .before .before .length-field .ensures)
     (omega arith) refl part)
     (start ∙ end .ensures) room
 

@@ -3,8 +3,9 @@ use Prim.Native.Nat.{ℕ, _*_}
 use mathlib.Core.Path.{sym, ap, _∙_}
 use native.Mathlib.Omega.{arith}
 use borrow.Author.Needs.{needs}
-use Rattle.sha2.specs.Hashing.{widthOf}
-use Rattle.sha2.proofs.Last.{thin-bytes, last-one, last-two}
+use Rattle.fips.specs.Sizes.{widthOf}
+use Rattle.fips.proofs.Sizes.{thin-bytes}
+use Rattle.sha2.proofs.Last.{last-one, last-two}
 use Rattle.sha2.proofs.finish.last_end.Statement.{statement}
 use Rattle.sha2.proofs.finish.last_end.Tie as tie
 

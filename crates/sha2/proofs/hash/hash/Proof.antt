@@ -1,9 +1,7 @@
 -- `sha2::hash::hash` meets its contract: each refusal by its test, and the digest by `digest-at-once`. Assumes nothing.
-use Prim.Native.Nat.{ℕ, _<_}
-use mathlib.Core.Bool.{not}
+use Prim.Native.Nat.{ℕ}
 use mathlib.Core.List.{List}
-use mathlib.Core.Path.{_≡_, refl, sym, ap, ap₂, _∙_}
-use native.Mathlib.Omega.{arith}
+use mathlib.Core.Path.{_≡_, refl, sym, ap, _∙_}
 use mir.Syntax.{w8 as u8}
 use mir.Val.{Fits}
 use lib.ListN.{length, getD}
@@ -12,10 +10,11 @@ use borrow.Author.Tests.{lt-ltb, le-ltb, not-true, not-false}
 use Rattle.answers.specs.Judged.{first}
 use Rattle.answers.proofs.Outcome.{refused, done}
 use Rattle.fips.specs.Editions.{start}
-use Rattle.sha2.specs.AtFront.{atFront}
-use Rattle.sha2.specs.Hash.{limit, hashTests, hashed}
-use Rattle.sha2.specs.Hashing.{finished, digestFrom}
-use Rattle.sha2.proofs.AtOnce.{size-unknown, size-known, closing-few, digest-at-once}
+use Rattle.slices.specs.AtFront.{atFront}
+use Rattle.sha2.specs.Hash.{hashTests, hashed}
+use Rattle.sha2.specs.code.Hashing.{finished, digestFrom}
+use Rattle.fips.proofs.Sizes.{size-unknown, size-known}
+use Rattle.sha2.proofs.AtOnce.{closing-few, digest-at-once}
 use Rattle.sha2.proofs.hash.hash.Statement.{statement}
 use Rattle.sha2.proofs.hash.hash.Tie as tie
 
@@ -27,17 +26,21 @@ returns-2 : tie.Need-returns-2
 unfolding hashTests first
 returns-2 c =
     refused
-    (rw (size-known _ _ (c .before .before .digest-bytes .ensures) (c .before .if1 .left), lt-ltb limit _ (c .if2 .taken)))
+    (rw (
+      size-known _ _ (c .before .before .before .digest-bytes .ensures) (c .before .before .if1 .left),
+      sym
+          (c .before .too-long .ensures) ∙ c .if2 .taken,
+    ))
     tt refl
 
 returns-3 : tie.Need-returns-3
 unfolding hashTests first
 returns-3 c =
-    let d = c .before .before .before .before in
+    let d = c .before .before .before .before .before in
     refused
     (rw (
-      size-known _ _ (d .digest-bytes .ensures) (c .before .before .before .if1 .left),
-      le-ltb limit _ (c .before .before .if2 .left),
+      size-known _ _ (d .digest-bytes .ensures) (c .before .before .before .before .if1 .left),
+      sym (c .before .before .before .too-long .ensures) ∙ c .before .before .if2 .left,
       sym (c .before .closing-fits .ensures) ∙ not-true _ (c .if3 .taken),
     ))
     tt refl
@@ -46,11 +49,11 @@ returns-4 : tie.Need-returns-4
 unfolding hashTests first
 returns-4 c =
     let f = c .before .before in
-    let d = f .before .before .before in
+    let d = f .before .before .before .before in
     refused
     (rw (
-      size-known _ _ (d .digest-bytes .ensures) (f .before .before .if1 .left),
-      le-ltb limit _ (f .before .if2 .left),
+      size-known _ _ (d .digest-bytes .ensures) (f .before .before .before .if1 .left),
+      sym (f .before .before .too-long .ensures) ∙ f .before .if2 .left,
       sym (f .closing-fits .ensures) ∙ not-false _ (c .before .if3 .left),
       ← d .digest-bytes .ensures,
       lt-ltb _ _ (c .if4 .taken),
@@ -63,7 +66,7 @@ returns-5 c =
     let w = c .before .before in
     let e4 = w .before .before .before .before in
     let f = e4 .before .before in
-    let d = f .before .before .before in
+    let d = f .before .before .before .before in
     let s = d .before .before .before in
     let e = s .args .edition in
     let m = s .args .message .now in
@@ -72,12 +75,13 @@ returns-5 c =
     let fits = sym (f .closing-fits .ensures) ∙ not-false _ (e4 .before .if3 .left) in
     let byte : (i : ℕ) → Fits u8 (getD m i 0) = λ i. d .before .before .shared-slice-known .given i in
     let words : w .before .before .finish .result ≡ finished e (start e) (length m) m x b =
-    w .before .before .finish .ensures ∙ ap (λ (H : List ℕ). finished e H (length m) m x b) (w .before .before .before .starting-words .ensures)
+    w .before .before .finish .ensures
+    ∙ ap (λ (H : List ℕ). finished e H (length m) m x b) (w .before .before .before .starting-words .ensures)
     in
     done
     (rw (
-      size-known _ _ (d .digest-bytes .ensures) (f .before .before .if1 .left),
-      le-ltb limit _ (f .before .if2 .left),
+      size-known _ _ (d .digest-bytes .ensures) (f .before .before .before .if1 .left),
+      sym (f .before .before .too-long .ensures) ∙ f .before .if2 .left,
       fits,
       ← d .digest-bytes .ensures,
       le-ltb _ _ (e4 .if4 .left),
@@ -89,5 +93,5 @@ returns-5 c =
 pub hash-spec : {M : Type 1} → statement M
 hash-spec =
     tie.close
-    (tie.spec (λ c κs. search needs) returns returns-2 (λ c κs. search needs) returns-3 returns-4
+    (tie.spec (λ c κs. search needs) returns (λ c κs. search needs) returns-2 (λ c κs. search needs) returns-3 returns-4
     (λ c κs. search needs) (λ c κs. search needs) (λ c κs. search needs) (λ c. search needs) returns-5)

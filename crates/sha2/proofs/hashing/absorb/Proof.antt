@@ -6,13 +6,14 @@ use mir.Syntax.{w64 as u64}
 use mir.Val.{Fits}
 use lib.ListN.{getD}
 use borrow.Author.Needs.{needs}
-use Rattle.bigendian.specs.BigEndian.{Below}
 use Rattle.fips.specs.Constants.{chain}
-use Rattle.fips.specs.ByteForm.{parseBytes}
+use Rattle.fips.specs.code.ByteForm.{parseBytes}
 use Rattle.fips.specs.Editions.{width}
 use Rattle.fips.specs.Words.{w32, w64}
-use Rattle.sha2.specs.Hashing.{widthOf}
-use Rattle.sha2.proofs.Widths.{width-of, fit-same, absorbed-at}
+use Rattle.fips.specs.Sizes.{widthOf}
+use Rattle.fips.proofs.Sizes.{width-of}
+use Rattle.sha2.proofs.Widths.{fit-same}
+use Rattle.sha2.proofs.Absorbed.{absorbed-at}
 use Rattle.sha2.proofs.hashing.absorb.Statement.{statement}
 use Rattle.sha2.proofs.hashing.absorb.Tie as tie
 

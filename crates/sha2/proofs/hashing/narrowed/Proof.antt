@@ -6,8 +6,8 @@ use lib.Seq.{take-all}
 use mathlib.Core.Path.{_≡_, refl, ap, _∙_}
 use borrow.Author.Needs.{needs}
 use Rattle.fips.specs.Words.{w32}
-use Rattle.sha2.specs.Hashing.{fit}
-use Rattle.sha2.proofs.Fill.{Filled, fill-more, fill-all}
+use Rattle.sha2.specs.code.Hashing.{fit}
+use Rattle.slices.proofs.Fill.{Filled, fill-more, fill-all}
 use Rattle.sha2.proofs.Widths.{fit-more}
 use Rattle.sha2.proofs.hashing.narrowed.Statement.{statement}
 use Rattle.sha2.proofs.hashing.narrowed.Tie as tie

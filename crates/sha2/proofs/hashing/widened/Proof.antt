@@ -1,12 +1,11 @@
 -- `sha2::hashing::widened` meets its contract: after k turns k words are copied. Assumes nothing.
 use Prim.Native.Nat.{_-_}
-use mathlib.Core.List.{[], _∷_, _++_}
 use mathlib.Core.Path.{_≡_, refl, _∙_}
 use native.Mathlib.Omega.{arith}
 use lib.ListN.{length, take}
 use lib.Seq.{take-all, take-suc}
 use borrow.Author.Needs.{needs}
-use Rattle.sha2.proofs.Fill.{Filled, fill-more, fill-all}
+use Rattle.slices.proofs.Fill.{Filled, fill-more, fill-all}
 use Rattle.sha2.proofs.hashing.widened.Statement.{statement}
 use Rattle.sha2.proofs.hashing.widened.Tie as tie
 

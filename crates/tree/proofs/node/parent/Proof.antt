@@ -4,7 +4,9 @@ use mathlib.Core.Path.{_≡_, refl, sym, ap, _∙_}
 use native.Mathlib.Omega.{arith}
 use lib.ListN.{length, length-append}
 use borrow.Author.Needs.{needs}
-use Rattle.tree.specs.Root.{sha256, parent}
+use Rattle.sha2.proofs.Limits.{within-limit}
+use Rattle.tree.specs.Root.{nodeBytes, nodeEdition, sha256, parent}
+use Rattle.tree.specs.code.Held.{pairBytes}
 use Rattle.tree.proofs.Hashes.{behind, parent-message}
 use Rattle.tree.proofs.node.parent.Statement.{statement}
 use Rattle.tree.proofs.node.parent.Tie as tie
@@ -12,16 +14,16 @@ use Rattle.tree.proofs.node.parent.Tie as tie
 part-message-end-2 : tie.Need-part-message-end-2
 part-message-end-2 c =
     let y = c .before .put-front .last .0 in
-    let long : length (y ++ []) ≡ 64 = ap length (append-nil y) ∙ c .before .put-front .kept .0 in
+    let long : length (y ++ []) ≡ pairBytes = ap length (append-nil y) ∙ c .before .put-front .kept .0 in
     omega arith
 
 abbrev start : tie.After-message5 → tie.Start
 start c = c .before .before .before .before .before .before .before .before .before
 
-left-long : (c : tie.After-message5) → length (start c .args .t1) ≡ 32
+left-long : (c : tie.After-message5) → length (start c .args .t1) ≡ nodeBytes
 left-long c = search needs
 
-right-long : (c : tie.After-message5) → length (start c .args .t2) ≡ 32
+right-long : (c : tie.After-message5) → length (start c .args .t2) ≡ nodeBytes
 right-long c = search needs
 
 made : (c : tie.After-message5) →
@@ -38,7 +40,7 @@ slice-aggregate-hash c =
     sym (ap length (made c) ∙ omega (arith, length-append left right, left-long c, right-long c))
 
 hash-requires : tie.Need-hash-requires
-hash-requires c κs = omega (arith, slice-aggregate-hash c)
+hash-requires c κs = within-limit nodeEdition 0 _ (omega (arith, slice-aggregate-hash c))
 
 returns : tie.Need-returns
 unfolding parent

@@ -5,6 +5,7 @@ use mathlib.Core.Path.{_≡_}
 use native.Mathlib.Omega.{arith}
 use lib.ListN.{length}
 use borrow.Author.Needs.{needs}
+use Rattle.tree.specs.Root.{nodeBytes}
 use Rattle.tree.proofs.InPlace.{Leaved, leaved-none, leaved-more, leaved-all}
 use Rattle.tree.proofs.whole.leaves.Statement.{statement}
 use Rattle.tree.proofs.whole.leaves.Tie as tie
@@ -20,9 +21,10 @@ loop-again c =
     let l = c .before .before .before .before .before .before .before .loop in
     let s = c .before .before .before .before .before .before .before .before .before .before in
     let node = c .before .before .before .before .leaf in
-    let whole : length (node .result) ≡ 32 = search needs in
+    let whole : length (node .result) ≡ nodeBytes = search needs in
     leaved-more (s .args .map .now) (s .args .count) (s .args .nodes .now) (l .nodes) (l .i) (s .pre .1)
-    (c .before .before .before .before .before .before .loop-test .taken) (l .inv) whole (node .ensures) (c .before .before .put-node .ensures)
+    (c .before .before .before .before .before .before .loop-test .taken) (l .inv) whole (node .ensures)
+    (c .before .before .put-node .ensures)
 
 returns : tie.Need-returns Inv-loop μ-loop
 returns c = leaved-all _ _ _ _ _ (c .loop-test .left) (c .before .loop .inv)

@@ -5,6 +5,7 @@ use mathlib.Core.Path.{_≡_}
 use native.Mathlib.Omega.{arith}
 use lib.ListN.{length, length-take, length-drop}
 use borrow.Author.Needs.{needs}
+use Rattle.tree.specs.Root.{nodeBytes}
 use Rattle.tree.proofs.InPlace.{Raised, raised-none, raised-more, raised-all}
 use Rattle.tree.proofs.whole.level.Statement.{statement}
 use Rattle.tree.proofs.whole.level.Tie as tie
@@ -23,9 +24,10 @@ loop-again c =
     let l = c .before .before .before .before .before .before .before .before .loop in
     let s = c .before .before .before .before .before .before .before .before .before .before in
     let node = c .before .before .before .before .first-above in
-    let whole : length (node .result) ≡ 32 = search needs in
+    let whole : length (node .result) ≡ nodeBytes = search needs in
     raised-more (s .args .nodes .now) (s .args .count) (l .nodes) (l .j) (s .pre)
-    (c .before .before .before .before .before .before .before .loop-test .taken) (l .inv) whole (node .ensures) (c .before .before .put-node .ensures)
+    (c .before .before .before .before .before .before .before .loop-test .taken) (l .inv) whole (node .ensures)
+    (c .before .before .put-node .ensures)
 
 returns : tie.Need-returns Inv-loop μ-loop
 returns c = raised-all _ _ _ _ (c .loop-test .left) (c .before .loop .inv)

@@ -5,19 +5,21 @@ use native.Mathlib.Nat.{add-sub-cancel-left}
 use native.Mathlib.Omega.{arith}
 use lib.ListN.{length, take, drop, length-take, length-drop}
 use borrow.Author.Needs.{needs}
-use Rattle.tree.proofs.Hashes.{full}
+use Rattle.tree.specs.Root.{nodeBytes}
+use Rattle.slices.proofs.AtFront.{atFront-all}
 use Rattle.tree.proofs.whole.node_at.Statement.{statement}
 use Rattle.tree.proofs.whole.node_at.Tie as tie
 
 returns : tie.Need-returns
 returns c =
     let s = c .before .before .before .before .before in
-    let at = s .args .i * 32 in
+    let at = s .args .i * nodeBytes in
     let nodes = s .args .nodes .now in
-    let long : 32 ≡ length (take (at + 32 - at) (drop at nodes)) = sym (simp (length-take, length-drop) (omega (arith, s .pre))) in
+    let node = take (at + nodeBytes - at) (drop at nodes) in
+    let long : nodeBytes ≡ length node = sym (simp (length-take, length-drop) (omega (arith, s .pre))) in
     c .before .put-front .ensures
-    ∙ full (take (at + 32 - at) (drop at nodes)) _ long
-    ∙ ap (λ (n : ℕ). take n (drop at nodes)) (add-sub-cancel-left at 32)
+    ∙ atFront-all node _ long
+    ∙ ap (λ (n : ℕ). take n (drop at nodes)) (add-sub-cancel-left at nodeBytes)
 
 pub node-at-spec : {M : Type 1} → statement M
 node-at-spec =

@@ -6,19 +6,19 @@ use borrow.Author.Needs.{needs}
 use borrow.Author.Tests.{lt-ltb, le-ltb}
 use Rattle.answers.specs.Judged.{first}
 use Rattle.answers.proofs.Outcome.{refused, done}
-use Rattle.sha2.specs.AtFront.{atFront}
+use Rattle.slices.specs.AtFront.{atFront}
 use Rattle.tree.specs.Root.{nodeBytes}
-use Rattle.tree.specs.Tree.{limit, treeTests, rooted}
+use Rattle.tree.specs.Tree.{treeLimit, treeTests, rooted}
 use Rattle.tree.proofs.whole.tree.Statement.{statement}
 use Rattle.tree.proofs.whole.tree.Tie as tie
 
 returns : tie.Need-returns
 unfolding treeTests first
-returns c = refused (rw (lt-ltb limit _ (c .if1 .taken))) tt refl
+returns c = refused (rw (lt-ltb treeLimit _ (c .if1 .taken))) tt refl
 
 returns-2 : tie.Need-returns-2
 unfolding treeTests first
-returns-2 c = refused (rw (le-ltb limit _ (c .before .if1 .left), lt-ltb _ nodeBytes (c .if2 .taken))) tt refl
+returns-2 c = refused (rw (le-ltb treeLimit _ (c .before .if1 .left), lt-ltb _ nodeBytes (c .if2 .taken))) tt refl
 
 returns-3 : tie.Need-returns-3
 unfolding treeTests first rooted
@@ -26,8 +26,9 @@ returns-3 c =
     let s = c .before .before .before .before .before .before .before .before .before .before in
     let passed = c .before .before .before .before .before .before in
     done
-    (rw (le-ltb limit _ (passed .before .if1 .left), le-ltb _ nodeBytes (passed .if2 .left)))
-    (c .before .before .put-front .ensures ∙ ap (λ (l : List ℕ). atFront l (s .args .out .now)) (c .before .before .before .before .before .root .ensures))
+    (rw (le-ltb treeLimit _ (passed .before .if1 .left), le-ltb _ nodeBytes (passed .if2 .left)))
+    (c .before .before .put-front .ensures
+    ∙ ap (λ (l : List ℕ). atFront l (s .args .out .now)) (c .before .before .before .before .before .root .ensures))
 
 pub tree-spec : {M : Type 1} → statement M
 tree-spec =

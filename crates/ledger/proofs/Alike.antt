@@ -1,0 +1,161 @@
+-- `alike`: where two ledgers have the same record in every slot, no later call tells them apart. `counts-as`: so a message's record loaded
+-- is as good as the message given. Both follow the one table that holds those records.
+use Prim.Native.Nat.{ℕ, zero, suc, _+_, _-_, _≤_, _<_}
+use mathlib.Core.Bool.{true, false}
+use mathlib.Core.List.{List, [], _++_, append-nil}
+use mathlib.Core.Path.{_≡_, refl, sym, ap, subst, _∙_}
+use native.Mathlib.Decide.{ℕ-discrete}
+use native.Mathlib.Nat.{le-refl, sub-zero, sub-self}
+use native.Mathlib.Omega.{arith}
+use lib.ListN.{length, take, getD, set, replicate, length-set, length-append, length-replicate}
+use lib.Seq.{take-length, take-suc, set-at, append-snoc, length-take-le, getD-set-same, getD-set-other}
+use Rattle.slices.specs.Below.{Bytes}
+use Rattle.fips.specs.Editions.{known}
+use Rattle.sha2.specs.Limit.{tooLong}
+use Rattle.halfread.specs.State.{sound}
+use Rattle.records.specs.Record.{recordOf, loaded, isRecord}
+use Rattle.records.proofs.Records.{length-recordOf, saved-loads, loaded-saves, recordOf-bytes}
+use Rattle.halfread.proofs.Soundness.{facts-sound}
+use Rattle.bays.specs.Table.{roomFor, laidOut, putBay}
+use Rattle.bays.specs.Bay.{bayOf}
+use Rattle.bays.specs.Calls.{Call}
+use Rattle.ledger.specs.Ledger.{Entry, Fine, FineSlot, Slot, nothing, entry, openedEntry, loadedEntry, with, stateOf}
+use Rattle.ledger.specs.Ledger.{slotRecord, Ready, SameRecords}
+use Rattle.ledger.specs.Promise.{AllPassed, saidOf}
+use Rattle.ledger.proofs.Entries.{state-facts, state-shaped, opened-fine, with-fine, loaded-state, loaded-fine}
+use Rattle.ledger.proofs.Follows.{Follows, slotBay, put-follows, laid-follows}
+use Rattle.ledger.proofs.Ledger.{follows-all}
+
+-- ---- every ledger has a table
+
+-- the slots up to k, the others still empty
+abbrev upTo : List Slot → ℕ → List Slot
+upTo l k = take k l ++ replicate (length l - k) nothing
+
+one-more : (l : List Slot) (k : ℕ) → k < length l → set (upTo l k) k (getD l k nothing) ≡ upTo l (suc k)
+one-more l k h =
+    let left : length l - k ≡ suc (length l - suc k) = omega arith in
+    rw left
+    (set-at (take k l) nothing (replicate (length l - suc k) nothing) (getD l k nothing) k (length-take-le k l (omega arith))
+    ∙ sym (append-snoc (take k l) (getD l k nothing) (replicate (length l - suc k) nothing))
+    ∙ ap (λ (x : List Slot). x ++ replicate (length l - suc k) nothing) (sym (take-suc l k nothing h)))
+
+module _ (L : ℕ) (l : List Slot) (ready : Ready L l) where
+  blankTable : List ℕ
+  blankTable = replicate L 0
+
+  room : roomFor (length l) (length blankTable) ≡ true
+  unfolding blankTable
+  room = rw (length-replicate {A = ℕ} L 0) (ready .room)
+
+  built : (k : ℕ) → k ≤ length l → (t : List ℕ) × Follows L t (upTo l k)
+  unfolding blankTable
+  built zero h = (
+    laidOut (length l) blankTable,
+    rw (sub-zero (length l))
+        (subst (λ (n : ℕ). Follows n (laidOut (length l) blankTable) (replicate (length l) nothing)) (length-replicate {A = ℕ} L 0)
+        (laid-follows (length l) blankTable room)),
+  )
+  built (suc k) h =
+      let (t, f) = built k (omega arith) in
+      let inside : k < length (upTo l k) =
+      omega (
+        arith,
+        length-append (take k l) (replicate (length l - k) nothing),
+        length-replicate {A = Slot}
+            (length l - k) nothing,
+        length-take-le k l (omega arith),
+      ) in
+      (putBay t k (slotBay (getD l k nothing)), rw (← (one-more l k h)) (put-follows f k inside (getD l k nothing) (ready .fine k)))
+
+  pub table-for : (t : List ℕ) × Follows L t l
+  table-for =
+      let (t, f) = built (length l) (le-refl (length l)) in
+      (t, subst (λ (m : List Slot). Follows L t m) whole f)
+    where
+      whole : upTo l (length l) ≡ l
+      whole = rw (sub-self (length l), take-length l) (append-nil l)
+
+-- ---- the same record is the same state
+
+state-sound : (a : Entry) → Fine a → sound (stateOf a) ≡ true
+state-sound a f = facts-sound (stateOf a) (state-shaped a f) (state-facts a f)
+
+state-loads : (a : Entry) → Fine a → (loaded (recordOf (stateOf a)) ≡ stateOf a) × (isRecord (recordOf (stateOf a)) ≡ true)
+state-loads a f = saved-loads (stateOf a) (state-sound a f) (state-shaped a f)
+
+same-state : (a b : Entry) → Fine a → Fine b → recordOf (stateOf a) ≡ recordOf (stateOf b) → stateOf a ≡ stateOf b
+same-state a b f g e =
+    sym (state-loads a f .0) ∙ ap loaded e ∙ state-loads b g .0
+
+-- a record has some bytes
+some-bytes : (a : Entry) → Fine a → [] ≡ recordOf (stateOf a) → ⊥
+some-bytes a f e = omega (arith, ap length e ∙ length-recordOf (stateOf a) (state-shaped a f))
+
+same-bay : (r s : Slot) → FineSlot r → FineSlot s → slotRecord r ≡ slotRecord s → slotBay r ≡ slotBay s
+same-bay nothing nothing f g e = refl
+same-bay nothing (entry b) f g e = absurd (some-bytes b g e)
+same-bay (entry a) nothing f g e = absurd (some-bytes a f (sym e))
+same-bay (entry a) (entry b) f g e = ap bayOf (same-state a b f g e)
+
+-- a table follows every ledger with the records of one that it follows
+follows-other : {L : ℕ} {t : List ℕ} {l m : List Slot} → Follows L t l → Ready L m → SameRecords l m → Follows L t m
+follows-other {L} {t} {l} {m} f r s =
+    record {
+      long = f .long;
+      header = f .header;
+      count = f .count ∙ s .bays;
+      bays = λ i h.
+          f .bays i (omega (arith, s .bays)) ∙ same-bay (getD l i nothing) (getD m i nothing) (f .fine i) (r .fine i) (s .records i);
+      fine = r .fine;
+    }
+
+pub alike : (L : ℕ) (l m : List Slot) → Ready L l → Ready L m → SameRecords l m → (calls : List Call) → AllPassed calls →
+    saidOf L l calls ≡ saidOf L m calls
+alike L l m a b s calls g =
+    let (t, f) = table-for L l a in
+    sym (follows-all f calls g) ∙ follows-all (follows-other f b s) calls g
+
+-- ---- a message's record loaded is as good as the message
+
+-- one slot anew
+set-ready : (L : ℕ) (l : List Slot) (i : ℕ) (s : Slot) → Ready L l → FineSlot s → i < length l → Ready L (set l i s)
+set-ready L l i s r f h = record { room = rw (length-set l i s) (r .room); fine = fines }
+  where
+    fines : (j : ℕ) → FineSlot (getD (set l i s) j nothing)
+    fines j = go (ℕ-discrete j i)
+      where
+        go : Dec (j ≡ i) → FineSlot (getD (set l i s) j nothing)
+        go (yes e) = rw (e, getD-set-same l i s nothing h) f
+        go (no d) = rw (getD-set-other l i j s nothing d) (r .fine j)
+
+set-records : (l : List Slot) (i : ℕ) (r s : Slot) → i < length l → slotRecord r ≡ slotRecord s → SameRecords (set l i r) (set l i s)
+set-records l i r s h e = record { bays = length-set l i r ∙ sym (length-set l i s); records = each }
+  where
+    each : (j : ℕ) → slotRecord (getD (set l i r) j nothing) ≡ slotRecord (getD (set l i s) j nothing)
+    each j = go (ℕ-discrete j i)
+      where
+        go : Dec (j ≡ i) → slotRecord (getD (set l i r) j nothing) ≡ slotRecord (getD (set l i s) j nothing)
+        go (yes q) = rw (q, getD-set-same l i r nothing h, getD-set-same l i s nothing h) e
+        go (no d) = rw (getD-set-other l i j r nothing d, getD-set-other l i j s nothing d)
+
+-- the record of a message: open an entry, give it the bytes, and take its record
+abbrev pub recordOfMessage : ℕ → List ℕ → List ℕ
+recordOfMessage e m = recordOf (stateOf (with (openedEntry e) m))
+
+pub counts-as : (L : ℕ) (l : List Slot) (i e : ℕ) (m : List ℕ) → Ready L l → i < length l → known e ≡ true → Bytes m →
+    tooLong e 0 (length m) ≡ false → (calls : List Call) → AllPassed calls →
+    saidOf L (set l i (entry (loadedEntry (recordOfMessage e m)))) calls ≡ saidOf L (set l i (entry (with (openedEntry e) m))) calls
+counts-as L l i e m r h k all short calls g =
+    let en = with (openedEntry e) m in
+    let fine : Fine en = with-fine (openedEntry e) (opened-fine e k) m all short in
+    let shaped = state-shaped en fine in
+    let loads = state-loads en fine in
+    let bytes = recordOf-bytes (stateOf en) shaped in
+    let rec = recordOfMessage e m in
+    alike L (set l i (entry (loadedEntry rec))) (set l i (entry en))
+    (set-ready L l i (entry (loadedEntry rec)) r (loaded-fine rec bytes (loads .1)) h)
+    (set-ready L l i (entry en) r fine h)
+    (set-records l i (entry (loadedEntry rec)) (entry en) h
+    (ap recordOf (loaded-state rec bytes (loads .1)) ∙ loaded-saves rec (loads .1)))
+    calls g

@@ -1,0 +1,168 @@
+-- A table that follows a ledger: each bay is its slot's words, and every entry is fine. One bay put anew follows the slot put anew,
+-- `put-follows`; a layout follows an empty ledger, `laid-follows`; and the gate answers both alike, `gated`.
+use Prim.Native.Nat.{ℕ, _+_, _≤_, _<_}
+use mathlib.Core.Bool.{Bool, true, false, not, cond}
+use mathlib.Core.List.{List, _∷_, _++_}
+use mathlib.Core.Path.{_≡_, refl, sym, ap, subst, _∙_}
+use native.Mathlib.Decide.{decLt, ℕ-discrete}
+use native.Mathlib.Omega.{arith}
+use lib.Dec.{leb}
+use lib.ListN.{length, getD, set, replicate, length-set, length-replicate, getD-replicate, List·getD-eq-default}
+use lib.Seq.{getD-set-same, getD-set-other}
+use borrow.Author.Tests.{leb-false}
+use Rattle.answers.specs.Judged.{Test, _when_, first}
+use Rattle.halfread.specs.declared.HalfRead.{HalfRead}
+use Rattle.slices.specs.Tests.{every}
+use Rattle.halfread.proofs.Soundness.{facts-sound}
+use Rattle.bays.specs.Places.{placeOf, bayWords}
+use Rattle.bays.specs.Table.{baysOf, roomFor, headed, bayAt, putBay, laidOut}
+use Rattle.bays.specs.Bay.{halfOf, bayOf, isEmpty, emptyBay, soundBay}
+use Rattle.bays.specs.Calls.{gateTests}
+use Rattle.ledger.specs.Ledger.{Entry, Fine, FineSlot, Slot, nothing, entry, entryLength, stateOf, isEntry, slotEdition, slotLength}
+use Rattle.bays.proofs.Frames.{room-of, bay-inside, bayAt-putBay, bayAt-other, length-putBay, baysOf-putBay, headed-putBay}
+use Rattle.bays.proofs.LaidOut.{headed-laidOut, length-laidOut, bayAt-laidOut}
+use Rattle.bays.proofs.Packing.{halfOf-bayOf, length-bayOf, taken-bayOf, soundBay-bayOf}
+use Rattle.ledger.proofs.Entries.{state-facts, state-shaped}
+
+-- the words of a slot
+abbrev pub slotBay : Slot → List ℕ
+slotBay nothing = emptyBay
+slotBay (entry en) = bayOf (stateOf en)
+
+pub record Follows (L : ℕ) (t : List ℕ) (l : List Slot) : Type 0 where
+  pub long : length t ≡ L
+  pub header : headed t ≡ true
+  pub count : baysOf t ≡ length l
+  pub bays : (i : ℕ) → i < length l → bayAt t i ≡ slotBay (getD l i nothing)
+  pub fine : (i : ℕ) → FineSlot (getD l i nothing)
+
+-- ---- a bay as its slot shows it
+
+pub record Shows (b : List ℕ) (s : Slot) : Type 0 where
+  pub isSound : soundBay b ≡ true
+  pub empty : isEmpty b ≡ not (isEntry s)
+  pub edition : halfOf b .edition ≡ slotEdition s
+  pub count : halfOf b .count ≡ slotLength s
+
+slot-length : (s : Slot) → FineSlot s → length (slotBay s) ≡ bayWords
+slot-length nothing f = refl
+slot-length (entry en) f = length-bayOf (stateOf en) (state-shaped en f)
+
+pub half-slot : (en : Entry) → Fine en → halfOf (bayOf (stateOf en)) ≡ stateOf en
+half-slot en f = halfOf-bayOf (stateOf en) (state-shaped en f)
+
+nothing-shows : Shows emptyBay nothing
+unfolding soundBay isEmpty halfOf every
+nothing-shows = record { isSound = refl; empty = refl; edition = refl; count = refl }
+
+pub state-edition : (en : Entry) → stateOf en .edition ≡ en .edition
+unfolding stateOf
+state-edition en = refl
+
+pub state-count : (en : Entry) → stateOf en .count ≡ entryLength en
+unfolding stateOf
+state-count en = refl
+
+entry-shows : (en : Entry) → Fine en → Shows (bayOf (stateOf en)) (entry en)
+entry-shows en f =
+    let half = half-slot en f in
+    let shaped = state-shaped en f in
+    let isSound = facts-sound (stateOf en) shaped (state-facts en f) in
+    record {
+      isSound = soundBay-bayOf (stateOf en) shaped isSound;
+      empty = taken-bayOf (stateOf en) shaped isSound;
+      edition = ap (λ (h : HalfRead). h .edition) half ∙ state-edition en;
+      count = ap (λ (h : HalfRead). h .count) half ∙ state-count en;
+    }
+
+slot-shows : (s : Slot) → FineSlot s → Shows (slotBay s) s
+slot-shows nothing f = nothing-shows
+slot-shows (entry en) f = entry-shows en f
+
+-- ---- the gate
+
+pub not-not : (b : Bool) → not (not b) ≡ b
+not-not true = refl
+not-not false = refl
+
+cond-in : (b : Bool) {n : ℕ} → cond b 2 n ≡ 0 → (b ≡ false) × (n ≡ 0)
+cond-in true e = absurd (omega arith)
+cond-in false e = (refl, e)
+
+module _ {L : ℕ} {t : List ℕ} {l : List Slot} (f : Follows L t l) where
+  abbrev pub at : ℕ → Slot
+  at i = getD l i nothing
+
+  pub shown : (i : ℕ) → i < length l → Shows (bayAt t i) (at i)
+  shown i h = rw (f .bays i h) (slot-shows (at i) (f .fine i))
+
+  -- the tests after the gate decide, where the bay is one of the table's
+  pub gated : (i : ℕ) (us vs : List Test) → (i < length l → first us ≡ first vs) →
+      first (gateTests t i ++ us) ≡ first ((2 when leb (length l) i) ∷ vs)
+  unfolding first
+  gated i us vs same = rw (f .header, f .count) (go (leb (length l) i) refl)
+    where
+      go : (b : Bool) → leb (length l) i ≡ b → cond b 2 (first us) ≡ cond b 2 (first vs)
+      go true e = refl
+      go false e = same (leb-false (length l) i e)
+
+  -- a call that is done passed the gate and the tests after it
+  pub passed-gate : (i : ℕ) (us : List Test) → first (gateTests t i ++ us) ≡ 0 → (i < length l) × (first us ≡ 0)
+  unfolding first
+  passed-gate i us e =
+      let r = cond-in (leb (length l) i) (rw (f .header, f .count) at e) in
+      (leb-false (length l) i (r .0), r .1)
+
+  room : (i : ℕ) → i < length l → placeOf i + bayWords ≤ length t
+  room i h = bay-inside t i (f .header) (rw (f .count) h)
+
+  -- ---- one bay anew
+
+  pub put-follows : (i : ℕ) → i < length l → (s : Slot) → FineSlot s → Follows L (putBay t i (slotBay s)) (set l i s)
+  put-follows i h s fine =
+      let b = slotBay s in
+      let size = slot-length s fine in
+      record {
+        long = length-putBay t i b size (room i h) ∙ f .long;
+        header = headed-putBay t i b size (room i h) ∙ f .header;
+        count = baysOf-putBay t i b size (room i h) ∙ f .count ∙ sym (length-set l i s);
+        bays = each;
+        fine = fines;
+      }
+    where
+      each : (j : ℕ) → j < length (set l i s) → bayAt (putBay t i (slotBay s)) j ≡ slotBay (getD (set l i s) j nothing)
+      each j k = go (ℕ-discrete j i)
+        where
+          go : Dec (j ≡ i) → bayAt (putBay t i (slotBay s)) j ≡ slotBay (getD (set l i s) j nothing)
+          go (yes e) =
+              rw (e, getD-set-same l i s nothing h) (bayAt-putBay t i (slotBay s) (slot-length s fine) (room i h))
+          go (no d) =
+              rw (getD-set-other l i j s nothing d)
+              (bayAt-other t i (slotBay s) (slot-length s fine) (room i h) j d ∙ f .bays j (omega (arith, length-set l i s)))
+
+      fines : (j : ℕ) → FineSlot (getD (set l i s) j nothing)
+      fines j = go (ℕ-discrete j i)
+        where
+          go : Dec (j ≡ i) → FineSlot (getD (set l i s) j nothing)
+          go (yes e) = rw (e, getD-set-same l i s nothing h) fine
+          go (no d) = rw (getD-set-other l i j s nothing d) (f .fine j)
+
+-- ---- a layout
+
+pub laid-follows : (n : ℕ) (t : List ℕ) → roomFor n (length t) ≡ true → Follows (length t) (laidOut n t) (replicate n nothing)
+unfolding laidOut
+laid-follows n t r =
+    record {
+      long = length-laidOut n t (room-of n (length t) r .within);
+      header = headed-laidOut n t r;
+      count = sym (length-replicate n nothing);
+      bays = λ i h. bayAt-laidOut n t i (omega (arith, length-replicate n nothing)) ∙ sym (ap slotBay (none i));
+      fine = λ i. subst FineSlot (sym (none i)) tt;
+    }
+  where
+    none : (i : ℕ) → getD (replicate n nothing) i nothing ≡ nothing
+    none i = go (decLt i n)
+      where
+        go : Dec (i < n) → getD (replicate n nothing) i nothing ≡ nothing
+        go (yes h) = getD-replicate n i nothing nothing h
+        go (no d) = List·getD-eq-default (replicate n nothing) nothing (omega (arith, length-replicate n nothing))

@@ -1,0 +1,2 @@
+-- The saved record of a half-read message.
+pub mod Record

@@ -1,0 +1,94 @@
+-- The saved record: SPEC, "The saved record". A row of fields, then the chaining words, then what waits in the tail.
+-- A form says how wide the count and the zeros of the header are; all is stated for any form, and `newest` is the one that is saved.
+use Prim.Native.Nat.{ℕ, _+_, _*_}
+use mathlib.Core.Bool.{Bool, not}
+use mathlib.Core.List.{List, [], _∷_, _++_}
+use lib.Dec.{ltb}
+use lib.ListN.{length, drop}
+use Rattle.answers.specs.Judged.{Test, _when_}
+use Rattle.slices.specs.Tests.{holds, same}
+use Rattle.bigendian.specs.Rows.{Field, _for_is_, rowBytes, fieldIn}
+use Rattle.bigendian.specs.Words.{fromWords, toWords}
+use Rattle.fips.specs.Editions.{width}
+use Rattle.halfread.specs.declared.HalfRead.{HalfRead}
+use Rattle.halfread.specs.State.{tailLength, pending, padded, sound}
+
+pub record Form : Type 0 where
+  pub countBytes : ℕ
+  pub zeroBytes : ℕ
+
+abbrev pub newest : Form
+newest = record { countBytes = 8; zeroBytes = 4 }
+
+-- how many chaining words a record holds
+abbrev pub wordCount : ℕ
+wordCount = 8
+
+-- where the count begins
+abbrev pub countAt : ℕ
+countAt = 8
+
+module _ (f : Form) where
+  -- where the words begin, and the tail behind them
+  abbrev pub wordsAt : ℕ
+  wordsAt = countAt + f .countBytes + 2 + 2 + f .zeroBytes
+
+  abbrev pub tailAt : ℕ → ℕ
+  tailAt e = wordsAt + wordCount * width e .bytes
+
+  module _ (h : HalfRead) where
+    abbrev pub lengthIn : ℕ
+    lengthIn = tailAt (h .edition) + tailLength h
+
+    -- the fields as SPEC's table has them, each where the one before it ends
+    unfoldable pub header : List Field
+    header =
+        0 for 2 is h .edition
+        ∷ 2 for 2 is wordCount
+        ∷ 4 for 2 is wordsAt
+        ∷ 6 for 2 is tailAt (h .edition)
+        ∷ countAt for f .countBytes is h .count
+        ∷ (countAt + f .countBytes) for 2 is tailLength h
+        ∷ (countAt + f .countBytes + 2) for 2 is lengthIn
+        ∷ (countAt + f .countBytes + 2 + 2) for f .zeroBytes is 0
+        ∷ []
+
+    unfoldable pub recordIn : List ℕ
+    recordIn = rowBytes header ++ (fromWords (width (h .edition) .bytes) (h .words) ++ pending h)
+
+  -- the state that the fields of bytes give: edition, bytes taken, words and tail
+  unfoldable pub readIn : List ℕ → HalfRead
+  readIn bytes =
+      let e : ℕ = fieldIn bytes 0 2 in
+      record {
+        edition = e;
+        count = fieldIn bytes countAt (f .countBytes);
+        words = toWords wordCount (width e .bytes) (drop wordsAt bytes);
+        tail = padded (drop (tailAt e) bytes);
+      }
+
+  -- a record of the form: its state is sound, and every byte is as that state's record has it
+  unfoldable pub isRecordIn : List ℕ → Bool
+  isRecordIn bytes = holds (sound (readIn bytes) ∷ same (recordIn (readIn bytes)) bytes ∷ [])
+
+-- ---- what is saved, and what loads
+
+abbrev pub recordLength : HalfRead → ℕ
+recordLength h = lengthIn newest h
+
+abbrev pub recordOf : HalfRead → List ℕ
+recordOf h = recordIn newest h
+
+abbrev pub loaded : List ℕ → HalfRead
+loaded bytes = readIn newest bytes
+
+abbrev pub isRecord : List ℕ → Bool
+isRecord bytes = isRecordIn newest bytes
+
+-- save: 6, 9
+unfoldable pub saveTests : HalfRead → List ℕ → List Test
+saveTests h out = 6 when not (sound h) ∷ 9 when ltb (length out) (recordLength h) ∷ []
+
+-- load: 10
+unfoldable pub loadTests : List ℕ → List Test
+loadTests bytes = 10 when not (isRecord bytes) ∷ []

@@ -1,8 +1,0 @@
--- The store is the word that `next` answers, whatever the block. Assumes nothing.
-use borrow.Author.Needs.{needs}
-use Rattle.sha2.proofs.block64.extend.Statement.{statement}
-use Rattle.sha2.proofs.block64.extend.Tie as tie
-
-pub extend-spec : {M : Type 1} → statement M
-extend-spec =
-    tie.close (tie.spec (λ c κs. search needs) (λ c. search needs) (λ c. search needs) (λ c m. rw (c .next .ensures m)))

@@ -1,0 +1,6 @@
+-- Lists and lent slices, each idea once: read in any order.
+pub mod Below
+pub mod Tests
+pub mod AtFront
+pub mod Parts
+pub mod Blocks
