@@ -2,12 +2,17 @@
 use Prim.Native.Nat.{ℕ, _<_}
 use mathlib.Core.Bool.{true, false, not, Bool, cond}
 use native.Mathlib.Omega.{arith}
+use lib.Dec.{lt→ltb}
 use mathlib.Core.List.{List, [], _∷_}
-use mathlib.Core.Path.{_≡_, refl, sym, _∙_}
+use mathlib.Core.Path.{_≡_, refl, sym, _∙_, ap}
+use Rattle.answers.specs.declared.Answer.{Answer}
+use Rattle.answers.specs.Numbers.{numberOf}
+use Rattle.halfread.specs.declared.HalfRead.{HalfRead}
 use Rattle.answers.specs.Judged.{Test, _when_, Judged, first}
-use Rattle.halfread.specs.State.{sound}
+use Rattle.halfread.specs.State.{sound, blank}
 use Rattle.bays.specs.Bay.{halfOf, isEmpty, soundBay}
 use Rattle.bays.proofs.Packing.{soundBay-empty, soundBay-taken}
+use Rattle.answers.proofs.Outcome.{refused}
 
 -- ---- 6 and 4, 6 and 3
 
@@ -49,3 +54,9 @@ module _ (b : List ℕ) where
   pub first-unsound : isEmpty b ≡ false → sound (halfOf b) ≡ false → first fill ≡ 6
   unfolding first
   first-unsound e s = rw (soundBay-taken b e, s)
+
+-- ---- a refusal that hands nothing back
+
+pub refused-with : {ts : List Test} {new left : HalfRead} (r a : Answer) → 0 < numberOf a → numberOf a ≡ first ts → r ≡ a → left ≡ blank →
+    Judged ts blank new (numberOf r) left
+refused-with r a p e q l = refused (sym (ap numberOf q ∙ e)) (lt→ltb 0 (numberOf r) (omega (arith, ap numberOf q))) l

@@ -1,59 +1,56 @@
--- Settled: two outcomes that a call's statement allows coincide, answer, table and output; of ask the answer and what it tells.
+-- Settled: two results that a public function's statement allows coincide.
 use Prim.Native.Nat.{ℕ}
-use mathlib.Core.List.{List, []}
-use mathlib.Core.Path.{_≡_, ap}
-use Rattle.answers.specs.Numbers.{numberOf}
+use mathlib.Core.List.{List}
+use mathlib.Core.Path.{_≡_, sym, _∙_}
 use Rattle.answers.specs.declared.Answer.{Answer}
-use Rattle.answers.specs.Judged.{Lent}
-use Rattle.answers.proofs.Outcome.{answer-settled}
-use Rattle.bays.specs.Calls.{Call, layOut, opening, adding, closing, saving, loading, dropping, Told, Outcome, Asks}
+use Rattle.answers.specs.Judged.{Test, Judged, first, after}
+use Rattle.answers.specs.Numbers.{numberOf}
+use Rattle.answers.proofs.Outcome.{number-injective, answer-settled}
+use Rattle.halfread.specs.declared.HalfRead.{HalfRead}
+use Rattle.halfread.specs.State.{blank}
+use Rattle.bays.specs.declared.in_place.Held.{Held}
+use Rattle.bays.specs.Table.{laidOut, putBay}
+use Rattle.bays.specs.Bay.{bayOf, emptyBay}
+use Rattle.bays.specs.Gate.{halfAt, gateTests, takenTests, soundTests, freeTests, layoutTests}
 
-module _ (t : List ℕ) (r s : Answer) {left also : List ℕ} where
-  -- any call
-  pub call-settled : {out too : List ℕ} (c : Call) → Outcome t c (numberOf r) left out → Outcome t c (numberOf s) also too →
-      (r ≡ s) × (left ≡ also) × (out ≡ too)
-  call-settled c j k =
-      let o = answer-settled r s j k in
-      (o .0, ap (λ (l : Lent). l .table) (o .1), ap (λ (l : Lent). l .output) (o .1))
+-- one that answers the first test that applies
+first-settled : (ts : List Test) (r s : Answer) → numberOf r ≡ first ts → numberOf s ≡ first ts → r ≡ s
+first-settled ts r s p q = number-injective r s (p ∙ sym q)
 
-  -- any call that is lent the table alone
-  alone-settled : (c : Call) → Outcome t c (numberOf r) left [] → Outcome t c (numberOf s) also [] → (r ≡ s) × (left ≡ also)
-  alone-settled c j k =
-      let o = call-settled c j k in
-      (o .0, o .1)
+-- one that hands back what a bay holds
+held-settled : (ts : List Test) (new : HalfRead) (r s : Held) → Judged ts blank new (numberOf (r .answer)) (r .half) →
+    Judged ts blank new (numberOf (s .answer)) (s .half) → r ≡ s
+held-settled ts new r s j k =
+    let o = answer-settled (r .answer) (s .answer) j k in
+    λ i. record { answer = o .0 i; half = o .1 i }
 
-  pub lay-out-settled : (n : ℕ) → Outcome t (layOut n) (numberOf r) left [] → Outcome t (layOut n) (numberOf s) also [] →
-      (r ≡ s) × (left ≡ also)
-  lay-out-settled n = alone-settled (layOut n)
+module _ (t : List ℕ) where
+  pub lay-out-settled : (n : ℕ) (r s : Answer) {left also : List ℕ} → Judged (layoutTests t n) t (laidOut n t) (numberOf r) left →
+      Judged (layoutTests t n) t (laidOut n t) (numberOf s) also → (r ≡ s) × (left ≡ also)
+  lay-out-settled n = answer-settled
 
-  pub open-settled : (i e : ℕ) → Outcome t (opening i e) (numberOf r) left [] → Outcome t (opening i e) (numberOf s) also [] →
-      (r ≡ s) × (left ≡ also)
-  open-settled i e = alone-settled (opening i e)
+  module _ (i : ℕ) where
+    pub gate-settled : (r s : Answer) → numberOf r ≡ first (gateTests t i) → numberOf s ≡ first (gateTests t i) → r ≡ s
+    gate-settled = first-settled (gateTests t i)
 
-  pub add-settled : (i : ℕ) (piece : List ℕ) → Outcome t (adding i piece) (numberOf r) left [] →
-      Outcome t (adding i piece) (numberOf s) also [] →
-      (r ≡ s) × (left ≡ also)
-  add-settled i piece = alone-settled (adding i piece)
+    pub gate-taken-settled : (r s : Answer) → numberOf r ≡ first (takenTests t i) → numberOf s ≡ first (takenTests t i) → r ≡ s
+    gate-taken-settled = first-settled (takenTests t i)
 
-  pub load-settled : (i : ℕ) (bytes : List ℕ) → Outcome t (loading i bytes) (numberOf r) left [] →
-      Outcome t (loading i bytes) (numberOf s) also [] →
-      (r ≡ s) × (left ≡ also)
-  load-settled i bytes = alone-settled (loading i bytes)
+    pub gate-free-settled : (r s : Answer) → numberOf r ≡ first (freeTests t i) → numberOf s ≡ first (freeTests t i) → r ≡ s
+    gate-free-settled = first-settled (freeTests t i)
 
-  pub drop-settled : (i : ℕ) → Outcome t (dropping i) (numberOf r) left [] → Outcome t (dropping i) (numberOf s) also [] →
-      (r ≡ s) × (left ≡ also)
-  drop-settled i = alone-settled (dropping i)
+    pub taken-at-settled : (r s : Held) → Judged (takenTests t i) blank (halfAt t i) (numberOf (r .answer)) (r .half) →
+        Judged (takenTests t i) blank (halfAt t i) (numberOf (s .answer)) (s .half) → r ≡ s
+    taken-at-settled = held-settled (takenTests t i) (halfAt t i)
 
-  module _ (i : ℕ) (out : List ℕ) {to too : List ℕ} where
-    pub close-settled : (x b : ℕ) → Outcome t (closing i x b out) (numberOf r) left to →
-        Outcome t (closing i x b out) (numberOf s) also too →
-        (r ≡ s) × (left ≡ also) × (to ≡ too)
-    close-settled x b = call-settled (closing i x b out)
+    pub sound-at-settled : (r s : Held) → Judged (soundTests t i) blank (halfAt t i) (numberOf (r .answer)) (r .half) →
+        Judged (soundTests t i) blank (halfAt t i) (numberOf (s .answer)) (s .half) → r ≡ s
+    sound-at-settled = held-settled (soundTests t i) (halfAt t i)
 
-    pub save-settled : Outcome t (saving i out) (numberOf r) left to → Outcome t (saving i out) (numberOf s) also too →
-        (r ≡ s) × (left ≡ also) × (to ≡ too)
-    save-settled = call-settled (saving i out)
+    pub put-at-settled : (h : HalfRead) {left also : List ℕ} → left ≡ after (first (gateTests t i)) t (putBay t i (bayOf h)) →
+        also ≡ after (first (gateTests t i)) t (putBay t i (bayOf h)) → left ≡ also
+    put-at-settled h p q = p ∙ sym q
 
-pub ask-settled : (t : List ℕ) (i : ℕ) (r s : Answer) {says also : Told} → Asks t i (numberOf r) says → Asks t i (numberOf s) also →
-    (r ≡ s) × (says ≡ also)
-ask-settled t i r s j k = answer-settled r s j k
+    pub clear-at-settled : {left also : List ℕ} → left ≡ after (first (gateTests t i)) t (putBay t i emptyBay) →
+        also ≡ after (first (gateTests t i)) t (putBay t i emptyBay) → left ≡ also
+    clear-at-settled p q = p ∙ sym q

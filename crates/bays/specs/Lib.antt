@@ -1,5 +1,5 @@
--- The table of bays and its calls: read from the top.
+-- The table of bays: read from the top.
 pub mod Places
 pub mod Table
 pub mod Bay
-pub mod Calls
+pub mod Gate

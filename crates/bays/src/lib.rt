@@ -1,5 +1,4 @@
-// Layer 2: the table of bays in a lent run of words. SPEC, "The table of bays" and "Calls and their numbers".
-mod table; // table.rt: the header, the gate that every call passes, where a bay lies
-mod bay; // bay.rt: the 26 words of a bay, unpacked and packed
-mod in_place; // in_place.rt: a bay read, written and emptied where it lies
-pub mod calls; // calls.rt: the calls on the table
+// The table of bays in a lent run of words: SPEC, "The table of bays". What the calls ask of it, and a bay read and written in place.
+pub mod table; // table.rt: the header, the gate that every call passes, and laying out
+mod bay; // bay.rt: the words of a bay, unpacked and packed
+pub mod in_place; // in_place.rt: a bay where it lies, asked for, read, written and emptied

@@ -1,21 +1,22 @@
 // The lent run of words: its header, the gate that every call on a bay passes, and where a bay lies. SPEC, "The table of bays".
 ghost use mathlib.Core.Path.{_≡_};
 ghost use Prim.Native.Nat.{_+_, _≤_};
-ghost use Rattle.answers.specs.Judged.{first};
+ghost use Rattle.answers.specs.Judged.{first, Judged};
 ghost use Rattle.answers.specs.Numbers.{numberOf};
 ghost use Rattle.bays.specs.Places.{bayWords, placeOf};
-ghost use Rattle.bays.specs.Table.{roomFor, headed};
-ghost use Rattle.bays.specs.Calls.{gateTests};
+ghost use Rattle.bays.specs.Table.{roomFor, headed, laidOut};
+ghost use Rattle.bays.specs.Gate.{gateTests, layoutTests};
 use crate::bay::WORDS;
 use answers::Answer;
+use slices::zero::clear;
 
 // The header's words, in front of the first bay, and the most bays that a table has.
-pub(crate) const FIRST: usize = 4;
+const FIRST: usize = 4;
 
 const MOST: u64 = 64;
 
 // Whether so many bays, at least one and no more than the most, find room in a run of so many words.
-pub(crate) fn room_for(bays: u64, len: usize) -> bool
+fn room_for(bays: u64, len: usize) -> bool
     ensures { λ r. ⌜ r ≡ roomFor bays len ⌝ }
 {
     if bays < 1 {
@@ -27,7 +28,7 @@ pub(crate) fn room_for(bays: u64, len: usize) -> bool
     FIRST + WORDS * bays as usize <= len
 }
 
-pub(crate) fn headed(table: &[u64]) -> bool
+fn headed(table: &[u64]) -> bool
     ensures { λ r. ⌜ r ≡ headed (now (table .entry)) ⌝ }
 {
     if table.len() < FIRST {
@@ -46,7 +47,7 @@ pub(crate) fn headed(table: &[u64]) -> bool
 }
 
 // The header and then the bay: what every call on a bay asks first.
-pub(crate) fn gate(table: &[u64], bay: u64) -> Answer
+pub fn gate(table: &[u64], bay: u64) -> Answer
     ensures { λ r. ⌜ numberOf r ≡ first (gateTests (now (table .entry)) bay) ⌝ }
 {
     if !headed(table) {
@@ -64,4 +65,22 @@ pub(crate) fn place(bay: u64, len: usize) -> usize
     ensures { λ r. ⌜ r ≡ placeOf bay ⌝ }
 {
     FIRST + WORDS * bay as usize
+}
+
+// The header, and zeros in so many bays; what lies behind them is the caller's.
+pub fn lay_out(table: &mut [u64], bays: u64) -> Answer
+    ensures { λ r.
+        ⌜ Judged (layoutTests (now (table .entry)) bays) (now (table .entry)) (laidOut bays (now (table .entry))) (numberOf r)
+        (now (table .exit)) ⌝ }
+{
+    if !room_for(bays, table.len()) {
+        return Answer::BadLayout;
+    }
+    let end = FIRST + WORDS * bays as usize;
+    table[0] = bays;
+    table[1] = FIRST as u64;
+    table[2] = WORDS as u64;
+    table[3] = 0;
+    clear(&mut table[FIRST..end]);
+    Answer::Done
 }

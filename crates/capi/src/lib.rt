@@ -3,7 +3,7 @@
 ghost use mathlib.Core.List.{[]};
 ghost use mathlib.Core.Path.{_≡_};
 ghost use Rattle.answers.specs.Judged.{first};
-ghost use Rattle.bays.specs.Calls.{Call, told, Outcome, Asks};
+ghost use Rattle.calls.specs.Calls.{Call, told, Outcome, Asks};
 ghost use Rattle.lists.specs.Calls.{found, judgeTests};
 ghost use Rattle.sha2.specs.Hash.{Hashes};
 ghost use Rattle.tree.specs.Tree.{Trees};
@@ -27,21 +27,21 @@ pub extern "C" fn dw_hash(
 pub extern "C" fn dw_lay_out(table: &mut [u64], bays: u64) -> u64
     ensures { λ r. ⌜ Outcome (now (table .entry)) (Call.layOut bays) r (now (table .exit)) [] ⌝ }
 {
-    answers::number(bays::calls::lay_out(table, bays))
+    answers::number(calls::lay_out(table, bays))
 }
 
 #[no_mangle]
 pub extern "C" fn dw_open(table: &mut [u64], bay: u64, edition: u64) -> u64
     ensures { λ r. ⌜ Outcome (now (table .entry)) (Call.opening bay edition) r (now (table .exit)) [] ⌝ }
 {
-    answers::number(bays::calls::open(table, bay, edition))
+    answers::number(calls::open(table, bay, edition))
 }
 
 #[no_mangle]
 pub extern "C" fn dw_add(table: &mut [u64], bay: u64, piece: &[u8]) -> u64
     ensures { λ r. ⌜ Outcome (now (table .entry)) (Call.adding bay (now (piece .entry))) r (now (table .exit)) [] ⌝ }
 {
-    answers::number(bays::calls::add(table, bay, piece))
+    answers::number(calls::add(table, bay, piece))
 }
 
 #[no_mangle]
@@ -55,7 +55,7 @@ pub extern "C" fn dw_close(
     ensures { λ r.
         ⌜ Outcome (now (table .entry)) (Call.closing bay closing bits (now (out .entry))) r (now (table .exit)) (now (out .exit)) ⌝ }
 {
-    answers::number(bays::calls::close(table, bay, closing, bits, out))
+    answers::number(calls::close(table, bay, closing, bits, out))
 }
 
 #[no_mangle]
@@ -63,21 +63,21 @@ pub extern "C" fn dw_save(table: &[u64], bay: u64, out: &mut [u8]) -> u64
     ensures { λ r.
         ⌜ Outcome (now (table .entry)) (Call.saving bay (now (out .entry))) r (now (table .exit)) (now (out .exit)) ⌝ }
 {
-    answers::number(bays::calls::save(table, bay, out))
+    answers::number(calls::save(table, bay, out))
 }
 
 #[no_mangle]
 pub extern "C" fn dw_load(table: &mut [u64], bay: u64, record: &[u8]) -> u64
     ensures { λ r. ⌜ Outcome (now (table .entry)) (Call.loading bay (now («record» .entry))) r (now (table .exit)) [] ⌝ }
 {
-    answers::number(bays::calls::load(table, bay, record))
+    answers::number(calls::load(table, bay, record))
 }
 
 #[no_mangle]
 pub extern "C" fn dw_drop(table: &mut [u64], bay: u64) -> u64
     ensures { λ r. ⌜ Outcome (now (table .entry)) (Call.dropping bay) r (now (table .exit)) [] ⌝ }
 {
-    answers::number(bays::calls::drop(table, bay))
+    answers::number(calls::drop(table, bay))
 }
 
 // Edition and count are always written: 0 and 0 where the call is refused or nothing is in the bay.
@@ -85,7 +85,7 @@ pub extern "C" fn dw_drop(table: &mut [u64], bay: u64) -> u64
 pub extern "C" fn dw_ask(table: &[u64], bay: u64, edition: &mut u64, count: &mut u64) -> u64
     ensures { λ r. ⌜ Asks (now (table .entry)) bay r (told (now (edition .exit)) (now (count .exit))) ⌝ }
 {
-    let asked = bays::calls::ask(table, bay);
+    let asked = calls::ask(table, bay);
     let answer = asked.answer;
     *edition = asked.edition;
     *count = asked.count;

@@ -52,7 +52,8 @@ module _ (h : HalfRead) where
   pub start-rule : {H : List ℕ} {b : Bool} → Kept → h .count < blockOf h → H ≡ start (h .edition) → b ≡ same (h .words) H → b ≡ sound h
   start-rule k p q r = sym (last-rule k (rw (lt-leb (blockOf h) (h .count) p) (sym (r ∙ ap (same (h .words)) q))))
 
-  pub zero-rule : {n : ℕ} {b : Bool} → length (h .tail) ≡ tailRoom → n ≡ tailLength h → b ≡ allZero (take (tailRoom - n) (drop n (h .tail))) →
+  pub zero-rule : {n : ℕ} {b : Bool} → length (h .tail) ≡ tailRoom → n ≡ tailLength h →
+      b ≡ allZero (take (tailRoom - n) (drop n (h .tail))) →
       b ≡ allZero (drop (tailLength h) (h .tail))
   zero-rule {n} {b} l p q =
       q

@@ -59,12 +59,14 @@ front-padded bs m h k =
 
 pub drop-padded : (bs : List ℕ) (n : ℕ) → n ≤ tailRoom → length bs ≡ n → drop n (padded bs) ≡ replicate (tailRoom - n) 0
 drop-padded bs n h e =
-    ap (drop n) (padded-room bs (omega arith)) ∙ drop-at bs (replicate (tailRoom - length bs) 0) n e ∙ ap (λ (m : ℕ). replicate (tailRoom - m) 0) e
+    ap (drop n) (padded-room bs (omega arith)) ∙ drop-at bs (replicate (tailRoom - length bs) 0) n e
+    ∙ ap (λ (m : ℕ). replicate (tailRoom - m) 0) e
 
 pub padded-bytes : (bs : List ℕ) → Bytes bs → Bytes (padded bs)
 padded-bytes bs h =
     rw (front-zeros tailRoom bs)
-    (below-append (take tailRoom bs) (replicate (tailRoom - length bs) 0) (below-take tailRoom bs h) (below-replicate (tailRoom - length bs) (lit< tt)))
+    (below-append (take tailRoom bs) (replicate (tailRoom - length bs) 0) (below-take tailRoom bs h)
+    (below-replicate (tailRoom - length bs) (lit< tt)))
 
 pub length-pending : (h : HalfRead) → length (h .tail) ≡ tailRoom → length (pending h) ≡ tailLength h
 length-pending h e = length-take-le (tailLength h) (h .tail) (omega (arith, held-within h))

@@ -18,7 +18,7 @@ use Rattle.records.proofs.Records.{length-recordOf, saved-loads, loaded-saves, 
 use Rattle.halfread.proofs.Soundness.{facts-sound}
 use Rattle.bays.specs.Table.{roomFor, laidOut, putBay}
 use Rattle.bays.specs.Bay.{bayOf}
-use Rattle.bays.specs.Calls.{Call}
+use Rattle.calls.specs.Calls.{Call}
 use Rattle.ledger.specs.Ledger.{Entry, Fine, FineSlot, Slot, nothing, entry, openedEntry, loadedEntry, with, stateOf}
 use Rattle.ledger.specs.Ledger.{slotRecord, Ready, SameRecords}
 use Rattle.ledger.specs.Promise.{AllPassed, saidOf}

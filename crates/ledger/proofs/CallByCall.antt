@@ -24,8 +24,8 @@ use Rattle.records.specs.Record.{recordOf, recordLength, isRecord}
 use Rattle.records.proofs.Records.{length-recordOf}
 use Rattle.bays.specs.Table.{roomFor, bayAt, putBay, laidOut}
 use Rattle.bays.specs.Bay.{halfOf, bayOf, isEmpty, soundBay}
-use Rattle.bays.specs.Calls.{Call, layOut, opening, adding, closing, saving, loading, asking, dropping, halfAt, tests, leaves}
-use Rattle.bays.specs.Calls.{told, tells}
+use Rattle.calls.specs.Calls.{Call, layOut, opening, adding, closing, saving, loading, asking, dropping, tests, leaves, told, tells}
+use Rattle.bays.specs.Gate.{halfAt}
 use Rattle.ledger.specs.Ledger.{Entry, Fine, FineSlot, Slot, nothing, entry, openedEntry, loadedEntry, with, entryLength, stateOf}
 use Rattle.ledger.specs.Ledger.{isEntry, slotEdition, slotLength, slotRecord, slotDigest, slotWith, ledgerTests, kept, written}
 use Rattle.ledger.specs.Ledger.{saying}

@@ -18,8 +18,8 @@ use Rattle.records.specs.Record.{wordCount, readIn, loaded}
 use Rattle.bays.specs.Places.{placeOf, bayWords}
 use Rattle.bays.specs.Table.{baysOf, headed, putBay, laidOut}
 use Rattle.bays.specs.Bay.{halfOf, bayOf, emptyBay}
-use Rattle.bays.specs.Calls.{Call, layOut, opening, adding, closing, saving, loading, asking, dropping, outputOf, halfAt, gateTests}
-use Rattle.bays.specs.Calls.{tests, leaves, run}
+use Rattle.calls.specs.Calls.{Call, layOut, opening, adding, closing, saving, loading, asking, dropping, outputOf, tests, leaves, run}
+use Rattle.bays.specs.Gate.{halfAt, gateTests}
 use Rattle.ledger.specs.Ledger.{Slot, nothing, keep, kept, ledgerTests}
 use Rattle.ledger.specs.Promise.{AllPassed, tableOf, reach, LaidWithin}
 use Rattle.bays.proofs.Frames.{bay-inside, length-bayAt, drop-putBay}

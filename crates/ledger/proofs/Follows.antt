@@ -17,7 +17,7 @@ use Rattle.halfread.proofs.Soundness.{facts-sound}
 use Rattle.bays.specs.Places.{placeOf, bayWords}
 use Rattle.bays.specs.Table.{baysOf, roomFor, headed, bayAt, putBay, laidOut}
 use Rattle.bays.specs.Bay.{halfOf, bayOf, isEmpty, emptyBay, soundBay}
-use Rattle.bays.specs.Calls.{gateTests}
+use Rattle.bays.specs.Gate.{gateTests}
 use Rattle.ledger.specs.Ledger.{Entry, Fine, FineSlot, Slot, nothing, entry, entryLength, stateOf, isEntry, slotEdition, slotLength}
 use Rattle.bays.proofs.Frames.{room-of, bay-inside, bayAt-putBay, bayAt-other, length-putBay, baysOf-putBay, headed-putBay}
 use Rattle.bays.proofs.LaidOut.{headed-laidOut, length-laidOut, bayAt-laidOut}

@@ -17,8 +17,8 @@ use Rattle.fips.specs.code.ByteForm.{ending, parseBytes, hashBytes, digestOfByt
 use Rattle.fips.proofs.ByteForm.{digest-bytes}
 use Rattle.sha2.specs.code.Hashing.{digestFrom}
 use Rattle.bays.specs.Table.{roomFor}
-use Rattle.bays.specs.Calls.{Call, layOut, opening, adding, closing, saving, loading, asking, dropping, outputOf, tests, leaves, Seen}
-use Rattle.bays.specs.Calls.{run, nothingTold}
+use Rattle.calls.specs.Calls.{Call, layOut, opening, adding, closing, saving, loading, asking, dropping, outputOf, tests, leaves, Seen}
+use Rattle.calls.specs.Calls.{run, nothingTold}
 use Rattle.ledger.specs.Ledger.{Slot, nothing, openedEntry, with, entryDigest, ledgerTests, keep}
 use Rattle.ledger.specs.Promise.{Passed, AllPassed, seenOf, saidOf, Promise, Undamaged}
 use Rattle.ledger.proofs.Follows.{Follows, laid-follows}

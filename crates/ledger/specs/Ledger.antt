@@ -20,8 +20,8 @@ use Rattle.halfread.specs.declared.HalfRead.{HalfRead}
 use Rattle.halfread.specs.State.{tailLength, pending, padded}
 use Rattle.records.specs.Record.{recordOf, loaded, isRecord}
 use Rattle.bays.specs.Table.{roomFor}
-use Rattle.bays.specs.Calls.{Call, layOut, opening, adding, closing, saving, loading, asking, dropping, outputOf, Told, told, nothingTold}
-use Rattle.bays.specs.Calls.{Seen}
+use Rattle.calls.specs.Calls.{Call, layOut, opening, adding, closing, saving, loading, asking, dropping, outputOf, Told, told}
+use Rattle.calls.specs.Calls.{nothingTold, Seen}
 
 -- a message: the words that its hashing goes on from, how many bytes led to them, and all that came after
 pub record Entry : Type 0 where

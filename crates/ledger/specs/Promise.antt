@@ -6,7 +6,7 @@ use mathlib.Core.Path.{_≡_}
 use lib.ListN.{length, replicate}
 use Rattle.slices.specs.Below.{Bytes}
 use Rattle.bays.specs.Table.{baysOf}
-use Rattle.bays.specs.Calls.{Call, layOut, opening, adding, closing, saving, loading, asking, dropping, Seen, run}
+use Rattle.calls.specs.Calls.{Call, layOut, opening, adding, closing, saving, loading, asking, dropping, Seen, run}
 use Rattle.ledger.specs.Ledger.{Slot, nothing, keep}
 
 -- what a caller can pass: pieces and records are bytes, and so is a closing byte; every number and every output buffer is taken

@@ -1,6 +1,5 @@
 // The samples of SPEC, "Samples", that are not marked P, run through the calls: what each answers, and the digest of the longest message.
 use answers::Answer;
-use bays::calls;
 
 fn say(what: &[u8], answer: Answer) {
     io::write_all(1, what);

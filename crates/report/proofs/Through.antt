@@ -6,8 +6,8 @@ use mathlib.Core.Path.{_≡_, sym, ap, _∙_}
 use borrow.Author.Tests.{ne-eqb}
 use lib.Dec.{eqb}
 use lib.ListN.{take, replicate}
-use Rattle.bays.specs.Calls.{layOut, opening, adding, closing, run, Outcome}
-use Rattle.bays.proofs.Runs.{runs}
+use Rattle.calls.specs.Calls.{layOut, opening, adding, closing, run, Outcome}
+use Rattle.calls.proofs.Runs.{runs}
 use Rattle.fips.specs.Editions.{digestBytes}
 use Rattle.slices.specs.Tests.{same}
 use Rattle.lines.specs.declared.Verdict.{Verdict}

@@ -21,7 +21,7 @@ use Rattle.sha2.proofs.Limits.{same-sum, longer, no-length}
 use Rattle.sha2.specs.Closing.{closingFits}
 use Rattle.slices.proofs.AtFront.{atFront-room}
 use Rattle.bays.specs.Table.{roomFor}
-use Rattle.bays.specs.Calls.{layOut, opening, adding, closing, tests, Seen, run}
+use Rattle.calls.specs.Calls.{layOut, opening, adding, closing, tests, Seen, run}
 use Rattle.ledger.specs.Ledger.{Slot, nothing, entry, Entry, openedEntry, with, entryDigest, ledgerTests, kept, written, keep}
 use Rattle.ledger.proofs.Follows.{Follows}
 use Rattle.ledger.proofs.Ledger.{laid, same-seen, still-follows, opened-digest}

@@ -12,8 +12,8 @@ use lists::entries;
 pub fn begin(table: &mut [u64], list: &[u8])
     ensures { λ _. ⌜ now (table .exit) ≡ begun (now (table .entry)) (editionIn (now (list .entry))) ⌝ }
 {
-    bays::calls::lay_out(table, 1);
-    bays::calls::open(table, 0, entries::edition(list));
+    calls::lay_out(table, 1);
+    calls::open(table, 0, entries::edition(list));
 }
 
 // Whether the piece was taken: one that makes the file longer than the limit is not.
@@ -21,7 +21,7 @@ pub fn take(table: &mut [u64], piece: &[u8]) -> bool
     ensures { λ r. ⌜ r ≡ fits (now (table .entry)) (now (piece .entry)) ⌝ }
     ensures { λ _. ⌜ now (table .exit) ≡ afterPiece (now (table .entry)) (now (piece .entry)) ⌝ }
 {
-    answers::number(bays::calls::add(table, 0, piece)) == 0
+    answers::number(calls::add(table, 0, piece)) == 0
 }
 
 // Closes the bay, and compares the digest with the one of that number in the list.
@@ -31,7 +31,7 @@ fn judge(table: &mut [u64], list: &[u8], i: usize) -> Verdict
     ensures { λ _. ⌜ now (table .exit) ≡ afterClose (now (table .entry)) ⌝ }
 {
     let mut out = [0u8; 64];
-    if answers::number(bays::calls::close(table, 0, 0, 0, &mut out)) != 0 {
+    if answers::number(calls::close(table, 0, 0, 0, &mut out)) != 0 {
         return Verdict::Bad;
     }
     let size = fips::lookup::digest_bytes(entries::edition(list));

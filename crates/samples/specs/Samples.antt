@@ -61,7 +61,8 @@ table =
     ∷ ((rootWord 2 32 2 ∷ rootWord 3 32 2 ∷ []) is (0x6a09e667 ∷ 0x428a2f98 ∷ []))
     -- a saved record, and a list without entries
     ∷ (recordOf (added (opened 2) (ascii "abc"))
-    is be 8 0x0002000800180038 ++ (replicate 7 0 ++ (0x03 ∷ [])) ++ be 8 0x0003003b00000000 ++ fromWords 4 (start 2) ++ (0x61 ∷ 0x62 ∷ 0x63 ∷ []))
+    is be 8 0x0002000800180038 ++ (replicate 7 0 ++ (0x03 ∷ [])) ++ be 8 0x0003003b00000000 ++ fromWords 4 (start 2)
+    ++ (0x61 ∷ 0x62 ∷ 0x63 ∷ []))
     ∷ (listBytes (record { edition = 2; pairs = [] }) is be 4 0x00020000 ++ be 4 0x10 ++ be 4 0x10 ++ be 4 0x10)
     -- a message in every edition, as NIST's examples have it
     ∷ (digest 1 abc is be 28 0x23097d223405d8228642a477bda255b32aadbce4bda0b3f7e36c9da7)

@@ -8,7 +8,7 @@ use lib.ListN.{take, replicate}
 use Rattle.slices.specs.Below.{Bytes}
 use Rattle.fips.specs.Editions.{digestBytes}
 use Rattle.slices.specs.Tests.{same}
-use Rattle.bays.specs.Calls.{layOut, opening, adding, closing, Ran, run}
+use Rattle.calls.specs.Calls.{layOut, opening, adding, closing, Ran, run}
 use Rattle.report.specs.declared.Ending.{Ending}
 use Rattle.lines.specs.declared.Verdict.{Verdict}
 

@@ -2,23 +2,17 @@
 use Prim.Native.Nat.{ℕ}
 use mathlib.Core.List.{List, [], _∷_}
 use mathlib.Core.Path.{_≡_, sym, ap, _∙_}
-use native.Mathlib.Omega.{arith}
 use borrow.Author.Needs.{needs}
 use Rattle.answers.specs.Judged.{first}
 use Rattle.answers.specs.Numbers.{numberOf}
 use Rattle.answers.proofs.Refusals.{refuses}
-use Rattle.answers.proofs.Tests.{passed, first-on, first-off}
-use Rattle.bays.specs.Calls.{gateTests, vacant, takenTests}
-use Rattle.bays.proofs.Header.{gate-passed}
+use Rattle.bays.proofs.Header.{gate-stops, gate-opens, gate-passed}
+use Rattle.bays.specs.Gate.{gateTests, vacant, takenTests}
 use Rattle.bays.proofs.in_place.gate_taken.Statement.{statement}
 use Rattle.bays.proofs.in_place.gate_taken.Tie as tie
 
 returns : tie.Need-returns
-returns c =
-    let s = c .before .before .before in
-    let g = c .before .gate in
-    g .ensures
-    ∙ sym (first-off (gateTests (s .args .table .now) (s .args .bay)) _ (omega (arith, refuses (g .result) (c .match .keys2), g .ensures)))
+returns c = gate-stops _ _ _ (c .before .gate .ensures) (refuses (c .before .gate .result) (c .match .keys2))
 
 abbrev start : tie.After-enum-told → tie.Start
 start c = c .before .before .before .before
@@ -26,9 +20,9 @@ start c = c .before .before .before .before
 gated : (c : tie.After-enum-told) → first (gateTests (start c .args .table .now) (start c .args .bay)) ≡ 0
 gated c = sym (c .before .before .gate .ensures) ∙ ap numberOf (c .enum-told .given .1)
 
--- past the gate its last test decides
-past : (t : List ℕ) (i n : ℕ) → first (gateTests t i) ≡ 0 → first (vacant t i ∷ []) ≡ n → n ≡ first (takenTests t i)
-past t i n g e = sym (first-on (gateTests t i) (vacant t i ∷ []) (passed (gateTests t i) tt g) ∙ e)
+-- past the gate the bay decides
+past : (t : List ℕ) (i n : ℕ) → first (gateTests t i) ≡ 0 → n ≡ first (vacant t i ∷ []) → n ≡ first (takenTests t i)
+past t i n g e = gate-opens t i (vacant t i ∷ []) g e
 
 returns-2 : tie.Need-returns-2
 unfolding first

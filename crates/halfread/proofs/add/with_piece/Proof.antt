@@ -67,7 +67,8 @@ returns c =
     (c .if1 .taken)
 
 end-within : (c : tie.Else1) → c .before .before .before .before .tail-length .result
-    + lack (c .before .before .before .before .before .block-bytes .result) (c .before .before .before .before .tail-length .result) ≤ tailRoom
+    + lack (c .before .before .before .before .before .block-bytes .result)
+    (c .before .before .before .before .tail-length .result) ≤ tailRoom
 end-within c =
     let o = c .before .before .before .before in
     let b = o .before .block-bytes in

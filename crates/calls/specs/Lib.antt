@@ -1,0 +1,2 @@
+-- The calls on the table of bays.
+pub mod Calls
