@@ -1,7 +1,7 @@
 -- Digits, hexadecimal ones in lower case, and what they make: bytes of two digits each, and decimal numbers.
 use mathlib.Core.Bool.{Bool, true, _&&_, not, cond}
 use mathlib.Core.List.{List, [], _∷_, _++_}
-use Prim.Native.Nat.{ℕ, zero, suc, _+_, _-_, _*_, _%_}
+use Prim.Native.Nat.{ℕ, zero, suc, _+_, _-_, _*_, _/_, _%_}
 use lib.Dec.{ltb, leb, eqb}
 use lib.ListN.{length, getD}
 use Rattle.hexlines.specs.declared.Number.{Number}
@@ -29,6 +29,10 @@ isHex s = allDigits s && eqb (length s % 2) 0
 unfoldable pub bytesOf : List ℕ → ℕ → List ℕ
 bytesOf s zero = []
 bytesOf s (suc n) = bytesOf s n ++ (byteOf (getD s (2 * n) 0) (getD s (2 * n + 1) 0) ∷ [])
+
+-- how many bytes the text is: none where it is no hexadecimal, or more of them than there is room for
+unfoldable pub sizeWithin : ℕ → List ℕ → ℕ
+sizeWithin room s = cond (isHex s && leb (length s / 2) room) (length s / 2) 0
 
 -- x and the digits after it
 unfoldable pub numberFrom : ℕ → List ℕ → Number

@@ -4,7 +4,7 @@ ghost use mathlib.Core.Path.{_≡_};
 ghost use Prim.Native.Nat.{_/_, _≤_, min};
 ghost use lib.ListN.{length, take};
 ghost use Rattle.hexlines.specs.Fields.{place, firstField, otherFields};
-ghost use Rattle.hexlines.specs.Digits.{digitOf, byteOf, isHex, bytesOf, decimalOf};
+ghost use Rattle.hexlines.specs.Digits.{digitOf, byteOf, isHex, bytesOf, sizeWithin, decimalOf};
 
 // Where a byte first stands; the length where it stands nowhere.
 pub fn find(s: &[u8], b: u8) -> usize
@@ -99,6 +99,20 @@ pub fn unhex(s: &[u8], d: &mut [u8]) -> usize
         i += 1;
     }
     n
+}
+
+// The bytes of the text at the front of d, and how many they are: none where it is no hexadecimal or there is no room for all.
+pub fn unhex_all(s: &[u8], d: &mut [u8]) -> usize
+    ensures { λ r. ⌜ r ≡ sizeWithin (length (now (d .entry))) (now (s .entry)) ⌝ }
+    ensures { λ r. ⌜ take r (now (d .exit)) ≡ bytesOf (now (s .entry)) r ⌝ }
+{
+    if !is_hex(s) {
+        return 0;
+    }
+    if d.len() < s.len() / 2 {
+        return 0;
+    }
+    unhex(s, d)
 }
 
 pub enum Number {

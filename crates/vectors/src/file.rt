@@ -1,38 +1,22 @@
 // A file of vectors, line by line: how many lines it has, and how many of them hold.
-use crate::line::front;
-use crate::monte::Chain;
+use slices::places::part;
 
-// How far a file is read: where the next line starts, whether there was one, the lines so far and those that hold, and what the last
-// line hands on.
+// How far a file is read: where the next line starts, whether there was one, the lines so far and those that hold.
 struct Tally {
     at: u64,
     more: bool,
     lines: u64,
     passed: u64,
-    chain: Chain,
-}
-
-// Judges one line.
-fn judged(line: &[u8], monte: bool, chain: Chain, last: &mut [u8; 64]) -> Chain {
-    if monte {
-        return crate::monte::judged(line, chain, last);
-    }
-    Chain {
-        edition: 0,
-        size: 0,
-        held: crate::line::holds(line),
-    }
 }
 
 // Counts a line that ends before the offset `at`.
-fn counted(tally: Tally, at: u64, chain: Chain) -> Tally {
-    let one = if chain.held { 1 } else { 0 };
+fn counted(tally: Tally, at: u64, holds: bool) -> Tally {
+    let one = if holds { 1 } else { 0 };
     Tally {
         at,
         more: true,
         lines: std::num::wrapping_add_u64(tally.lines, 1),
         passed: std::num::wrapping_add_u64(tally.passed, one),
-        chain,
     }
 }
 
@@ -44,15 +28,14 @@ fn ended(tally: Tally) -> Tally {
 
 // The first line of the text, counted. Of a text of no bytes, the file has ended. A line that is longer than the text is cut there,
 // and does not hold.
-fn first(text: &[u8], monte: bool, tally: Tally, last: &mut [u8; 64]) -> Tally {
+fn first(text: &[u8], tally: Tally) -> Tally {
     if text.len() == 0 {
         return ended(tally);
     }
     let end = hexlines::find(text, b'\n');
-    let before = tally.chain;
-    let chain = judged(front(text, end), monte, before, last);
+    let holds = crate::line::holds(part(text, 0, end));
     let next = std::num::wrapping_add_u64(tally.at, end as u64);
-    counted(tally, std::num::wrapping_add_u64(next, 1), chain)
+    counted(tally, std::num::wrapping_add_u64(next, 1), holds)
 }
 
 // An offset for C, which a file of vectors does not pass.
@@ -64,30 +47,24 @@ fn offset(at: u64) -> i64 {
 }
 
 // Reads from where the next line starts, and counts it.
-fn next(fd: i32, monte: bool, tally: Tally, last: &mut [u8; 64]) -> Tally {
+fn next(fd: i32, tally: Tally) -> Tally {
     let mut buffer = [0u8; 32768];
     let got = libc::pread(fd, &mut buffer, offset(tally.at));
     let n = io::count(got, &buffer);
-    first(front(&buffer, n), monte, tally, last)
+    first(part(&buffer, 0, n), tally)
 }
 
 // Nothing says that a file ends, so the loop counts its turns down, from a number that no run uses up.
-fn all(fd: i32, monte: bool) -> Tally {
-    let mut last = [0u8; 64];
+fn all(fd: i32) -> Tally {
     let mut tally = Tally {
         at: 0,
         more: true,
         lines: 0,
         passed: 0,
-        chain: Chain {
-            edition: 0,
-            size: 0,
-            held: false,
-        },
     };
     let mut turns = u64::MAX;
     while turns > 0 && tally.more {
-        let t = next(fd, monte, tally, &mut last);
+        let t = next(fd, tally);
         tally = t;
         turns -= 1;
     }
@@ -95,12 +72,12 @@ fn all(fd: i32, monte: bool) -> Tally {
 }
 
 // Writes the file's name, how many of its lines hold, and how many it has. A file that cannot be opened has no lines.
-pub(crate) fn report(name: &[u8], monte: bool) {
+pub(crate) fn report(name: &[u8]) {
     let fd = os::open_read(name);
     if fd < 0 {
         os::fail(name);
     }
-    let tally = all(fd, monte);
+    let tally = all(fd);
     libc::close(fd);
     io::write_all(1, name);
     io::write_all(1, b" ");

@@ -1,41 +1,15 @@
 // A line of a file of hashes: `edition bits hexmessage hexdigest`. `-` is the empty message, `a*1000000` a million letters a; of a message
 // whose length is no multiple of eight, the last bits are the upper ones of its last byte.
-use answers::Answer;
 use hexlines::Number;
-
-fn done(answer: Answer) -> bool {
-    answers::number(answer) == 0
-}
-
-// The first n bytes; all of them where there are no more.
-pub(crate) fn front(s: &[u8], n: usize) -> &[u8] {
-    if n < s.len() {
-        return &s[0..n];
-    }
-    s
-}
-
-// The same of an output.
-pub(crate) fn room(s: &mut [u8], n: usize) -> &mut [u8] {
-    if n < s.len() {
-        return &mut s[0..n];
-    }
-    s
-}
+use slices::places::part;
 
 // Whether the digest of the message, bytes and closing bits, is the one expected.
-pub(crate) fn digest_is(
-    edition: u64,
-    message: &[u8],
-    closing: u8,
-    bits: u64,
-    expected: &[u8],
-) -> bool {
+fn digest_is(edition: u64, message: &[u8], closing: u8, bits: u64, expected: &[u8]) -> bool {
+    let n = fips::lookup::digest_bytes(edition);
     let mut out = [0u8; 64];
-    let n = expected.len();
-    let answer = sha2::hash::hash(edition, message, closing, bits, room(&mut out, n));
-    let right = check::same(front(&out, n), expected);
-    done(answer) && right
+    let answer = sha2::hash::hash(edition, message, closing, bits, &mut out);
+    let right = check::same(part(&out, 0, n), expected);
+    answers::number(answer) == 0 && right
 }
 
 fn million_digest_is(edition: u64, message: &[u8; 1000000], expected: &[u8]) -> bool {
@@ -65,7 +39,13 @@ fn bits_digest_is(edition: u64, bits: u64, message: &[u8], expected: &[u8]) -> b
     if last != whole {
         return false;
     }
-    digest_is(edition, front(message, last), message[last], over, expected)
+    digest_is(
+        edition,
+        part(message, 0, last),
+        message[last],
+        over,
+        expected,
+    )
 }
 
 // The same of a message in hexadecimal, of up to 16,384 bytes.
@@ -78,32 +58,17 @@ fn hex_digest_is(edition: u64, bits: u64, text: &[u8], expected: &[u8]) -> bool 
     }
     let mut message = [0u8; 16384];
     let n = hexlines::unhex(text, &mut message);
-    bits_digest_is(edition, bits, front(&message, n), expected)
+    bits_digest_is(edition, bits, part(&message, 0, n), expected)
 }
 
 fn message_digest_is(edition: u64, bits: u64, text: &[u8], expected: &[u8]) -> bool {
     if check::same(text, b"-") {
-        return bits_digest_is(edition, bits, front(text, 0), expected);
+        return bits_digest_is(edition, bits, part(text, 0, 0), expected);
     }
     if check::same(text, b"a*1000000") {
         return bits == 8000000 && million(edition, expected);
     }
     hex_digest_is(edition, bits, text, expected)
-}
-
-// A digest in hexadecimal, read into an array of 64 bytes: how many bytes it has, none where it is not one.
-pub(crate) fn digest(text: &[u8], bytes: &mut [u8; 64]) -> usize {
-    if hexlines::is_hex(text) {
-        if text.len() <= 128 {
-            return hexlines::unhex(text, bytes);
-        }
-    }
-    0
-}
-
-// The first n bytes of such an array.
-pub(crate) fn digest_front(bytes: &[u8; 64], n: usize) -> &[u8] {
-    front(bytes, n)
 }
 
 // Whether the line holds: it reads as such a line does, and its digest is what hash at once writes.
@@ -117,11 +82,11 @@ pub(crate) fn holds(line: &[u8]) -> bool {
     };
     let texts = hexlines::other_fields(after);
     let mut bytes = [0u8; 64];
-    let n = digest(hexlines::other_fields(texts), &mut bytes);
+    let n = hexlines::unhex_all(hexlines::other_fields(texts), &mut bytes);
     message_digest_is(
         edition,
         bits,
         hexlines::first_field(texts),
-        digest_front(&bytes, n),
+        part(&bytes, 0, n),
     )
 }

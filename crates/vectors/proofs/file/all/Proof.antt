@@ -4,10 +4,10 @@ use Rattle.vectors.proofs.file.all.Statement.{statement}
 use Rattle.vectors.proofs.file.all.Tie as tie
 
 abbrev Inv-loop : tie.InvT-loop
-Inv-loop fd monte last₀ tally₀ turns₀ last tally turns = Unit {0}
+Inv-loop fd tally₀ turns₀ tally turns = Unit {0}
 
 abbrev μ-loop : tie.MeasureT-loop
-μ-loop fd monte last₀ tally₀ turns₀ last tally turns = turns
+μ-loop fd tally₀ turns₀ tally turns = turns
 
 pub all-spec : {M : Type 1} → statement M
 all-spec =

@@ -1,8 +1,8 @@
 -- `pull` is safe and ends: the places stay within both arrays. The measure is how many bytes are left. Assumes nothing.
 use Prim.Native.Nat.{_-_, _≤_}
 use native.Mathlib.Omega.{arith}
-use Rattle.vectors.proofs.monte.pull.Statement.{statement}
-use Rattle.vectors.proofs.monte.pull.Tie as tie
+use Rattle.monte.proofs.line.pull.Statement.{statement}
+use Rattle.monte.proofs.line.pull.Tie as tie
 
 abbrev Inv-loop : tie.InvT-loop
 Inv-loop window n d₀ from i₀ d i = i ≤ n

@@ -1,8 +1,8 @@
 -- `thousand` is safe and ends. The measure is how many turns are left. Assumes nothing.
 use Prim.Native.Nat.{_-_, _≤_}
 use native.Mathlib.Omega.{arith}
-use Rattle.vectors.proofs.monte.thousand.Statement.{statement}
-use Rattle.vectors.proofs.monte.thousand.Tie as tie
+use Rattle.monte.proofs.line.thousand.Statement.{statement}
+use Rattle.monte.proofs.line.thousand.Tie as tie
 
 abbrev Inv-loop : tie.InvT-loop
 Inv-loop edition window₀ n i₀ window i = i ≤ 1000

@@ -1,8 +1,8 @@
 -- `push` is safe and ends: the places stay within the window. The measures are how many are left. Assumes nothing.
 use Prim.Native.Nat.{_-_, _≤_}
 use native.Mathlib.Omega.{arith}
-use Rattle.vectors.proofs.monte.push.Statement.{statement}
-use Rattle.vectors.proofs.monte.push.Tie as tie
+use Rattle.monte.proofs.line.push.Statement.{statement}
+use Rattle.monte.proofs.line.push.Tie as tie
 
 abbrev Inv-loop : tie.InvT-loop
 Inv-loop window₀ new n keep i₀ window i = i ≤ keep

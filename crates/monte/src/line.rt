@@ -1,8 +1,11 @@
 // A line of NIST's Monte Carlo test: `edition count seed hexdigest`, `-` where the seed is the digest of the line before. The digest is
 // reached from the seed three times by a thousand turns: each hashes the last three digests, one after the other.
-use crate::line::digest_front;
-use crate::line::room;
 use hexlines::Number;
+
+// The first n bytes of an array of 64.
+fn digest_front(bytes: &[u8; 64], n: usize) -> &[u8] {
+    slices::places::part(bytes, 0, n)
+}
 
 // Puts bytes at the end of the window, of which the foremost go.
 fn push(window: &mut [u8; 192], new: &[u8]) {
@@ -36,14 +39,14 @@ fn pull(window: &[u8; 192], n: usize, d: &mut [u8; 64]) {
     }
 }
 
-// One turn: the digest of the last three digests, of n bytes each. Answers whether hash at once did it.
+// One turn: the digest of the last three digests, of n bytes each. Answers whether those are the edition's and hash at once did it.
 fn turn(edition: u64, window: &mut [u8; 192], n: usize) -> bool {
-    if 64 < n {
+    if 64 < n || fips::lookup::digest_bytes(edition) != n {
         return false;
     }
     let mut out = [0u8; 64];
     let from = 192 - 3 * n;
-    let done = digest_after(edition, window, from, room(&mut out, n));
+    let done = digest_after(edition, window, from, &mut out);
     push(window, digest_front(&out, n));
     done
 }
@@ -93,12 +96,12 @@ fn seed(text: &[u8], edition: u64, before: Chain, last: &mut [u8; 64]) -> usize 
         }
         return 0;
     }
-    crate::line::digest(text, last)
+    hexlines::unhex_all(text, last)
 }
 
 fn reached(last: &[u8; 64], n: usize, text: &[u8]) -> bool {
     let mut expected = [0u8; 64];
-    let m = crate::line::digest(text, &mut expected);
+    let m = hexlines::unhex_all(text, &mut expected);
     check::same(digest_front(last, n), digest_front(&expected, m))
 }
 
