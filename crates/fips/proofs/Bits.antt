@@ -1,10 +1,10 @@
 -- Bits, numbers and bytes: laws of specs/Bits.antt. Main: `value-bits` and `bits-value` (the two are inverse), `bitsOf-be` (the bits of a
 -- number's bytes are its bits), `value-bitsOf` (bytes make the number of their bits), `pieces-bitsOf` (a piece by bytes is one by bits).
-use Prim.Native.Nat.{ℕ, zero, suc, _+_, _-_, _*_, _/_, _%_, _^_, _<_}
+use Prim.Native.Nat.{ℕ, zero, suc, _+_, _*_, _/_, _%_, _^_, _<_}
 use mathlib.Core.Bool.{Bool, true, false}
 use mathlib.Core.List.{List, [], _∷_, _++_, map, append-assoc}
 use mathlib.Core.Path.{_≡_, refl, sym, ap, ap₂, _∙_}
-use native.Mathlib.Nat.{mod-one, mod-lt, zero-add, suc-add, add-comm, add-assoc, mul-suc, pow-suc, pow-succ'}
+use native.Mathlib.Nat.{mod-one, mod-lt, zero-add, suc-add, add-comm, add-assoc, mul-suc, pow-succ'}
 use native.Mathlib.Nat.{mod-eq-of-lt, lt-suc-self, mod-mod, mod-self, div-self, zero-div, zero-mod, add-mul, mul-assoc, zero-mul}
 use native.Mathlib.Numerals.{one-add}
 use native.Mathlib.Omega.{arith}
@@ -13,6 +13,7 @@ use lib.Dec.{eqb}
 use lib.ListN.{length, take, drop, replicate, length-append, replicate-append-replicate}
 use lib.Pow.{pow-pos, pow-add, mod-pow-add, mod-mod-pow, field, shr-shr, high, low, pow-lt}
 use lib.Seq.{take-append-add, drop-append-add, take-at, take-nil, drop-nil}
+use Rattle.bigendian.proofs.BigEndian.{pow-256}
 use Rattle.bigendian.specs.BigEndian.{be, number}
 use Rattle.slices.specs.Below.{Bytes}
 use Rattle.bigendian.specs.Words.{toWords}
@@ -138,10 +139,6 @@ unfolding bitsOf
 bitsOf-zeros zero = refl
 bitsOf-zeros (suc k) =
     rw (bits-zero 8, bitsOf-zeros k, mul-suc 8 k, add-comm (8 * k) 8) (replicate-append-replicate 8 (8 * k) false)
-
-pub pow-256 : (n : ℕ) → 256 ^ n ≡ 2 ^ (8 * n)
-pow-256 zero = refl
-pow-256 (suc n) = rw (pow-suc 256 n, pow-256 n, mul-suc 8 n, pow-add 2 (8 * n) 8)
 
 pub bitsOf-be : (n x : ℕ) → bitsOf (be n x) ≡ bits (8 * n) x
 unfolding bitsOf be bits

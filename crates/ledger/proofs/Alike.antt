@@ -1,6 +1,6 @@
 -- `alike`: where two ledgers have the same record in every slot, no later call tells them apart. `counts-as`: so a message's record loaded
 -- is as good as the message given. Both follow the one table that holds those records.
-use Prim.Native.Nat.{ℕ, zero, suc, _+_, _-_, _≤_, _<_}
+use Prim.Native.Nat.{ℕ, zero, suc, _-_, _≤_, _<_}
 use mathlib.Core.Bool.{true, false}
 use mathlib.Core.List.{List, [], _++_, append-nil}
 use mathlib.Core.Path.{_≡_, refl, sym, ap, subst, _∙_}

@@ -1,6 +1,6 @@
 -- `ledger`: demand 3 of SPEC, "How much each call says". A table laid out over any words gives, over every sequence of calls, what the
 -- plain ledger gives. Corollaries: `undamaged`, no answer is 1 or 6; `opened-digest`, an opened entry gives the standard's digest.
-use Prim.Native.Nat.{ℕ, zero, suc, _+_, _≤_, _<_}
+use Prim.Native.Nat.{ℕ, zero, suc, _≤_, _<_}
 use mathlib.Core.Bool.{Bool, true, false, not, cond, _&&_}
 use mathlib.Core.List.{List, [], _∷_, _++_}
 use mathlib.Core.Path.{_≡_, refl, sym, ap, ap₂, subst, _∙_}

@@ -1,6 +1,6 @@
 -- A file through a bay gets the verdict that its bytes have: `file-verdict`. The ledger's theorem says what the bay holds after each
 -- piece, and closing gives the standard's digest of it.
-use Prim.Native.Nat.{ℕ, _+_, _≤_}
+use Prim.Native.Nat.{ℕ, _≤_}
 use mathlib.Core.Bool.{Bool, true, false, cond}
 use mathlib.Core.List.{List, [], _∷_, _++_, append-assoc, append-nil}
 use mathlib.Core.Path.{_≡_, refl, sym, ap, subst, _∙_}

@@ -1,5 +1,5 @@
 -- Pieces of a list, and nodes held back to back as pieces of a buffer. Main: `held-put`, a node put behind those held.
-use Prim.Native.Nat.{ℕ, zero, suc, _+_, _-_, _*_, _≤_}
+use Prim.Native.Nat.{ℕ, zero, suc, _+_, _*_, _≤_}
 use mathlib.Core.List.{List, [], _∷_, _++_}
 use mathlib.Core.Path.{_≡_, refl, sym, ap, ap₂, _∙_}
 use native.Mathlib.Nat.{zero-mul, suc-mul, add-comm}
