@@ -26,28 +26,15 @@ fn push(window: &mut [u8; 192], new: &[u8]) {
     }
 }
 
-// The last n bytes of the window at the front of d.
-fn pull(window: &[u8; 192], n: usize, d: &mut [u8; 64]) {
-    if 64 < n {
-        return;
-    }
-    let from = 192 - n;
-    let mut i = 0;
-    while i < n {
-        d[i] = window[from + i];
-        i += 1;
-    }
-}
-
-// One turn: the digest of the last three digests, of n bytes each. Answers whether those are the edition's and hash at once did it.
-fn turn(edition: u64, window: &mut [u8; 192], n: usize) -> bool {
+// One turn: `last` is then the digest of the last three digests, of n bytes each, and the window has it at its end.
+// Answers whether the edition's digests have n bytes and hash at once did it.
+fn turn(edition: u64, window: &mut [u8; 192], n: usize, last: &mut [u8; 64]) -> bool {
     if 64 < n || fips::lookup::digest_bytes(edition) != n {
         return false;
     }
-    let mut out = [0u8; 64];
     let from = 192 - 3 * n;
-    let done = digest_after(edition, window, from, &mut out);
-    push(window, digest_front(&out, n));
+    let done = digest_after(edition, window, from, last);
+    push(window, digest_front(last, n));
     done
 }
 
@@ -58,10 +45,10 @@ fn digest_after(edition: u64, window: &[u8], from: usize, out: &mut [u8]) -> boo
     answers::number(sha2::hash::hash(edition, &window[from..], 0, 0, out)) == 0
 }
 
-fn thousand(edition: u64, window: &mut [u8; 192], n: usize) -> bool {
+fn thousand(edition: u64, window: &mut [u8; 192], n: usize, last: &mut [u8; 64]) -> bool {
     let mut i: usize = 0;
     while i < 1000 {
-        if !turn(edition, window, n) {
+        if !turn(edition, window, n, last) {
             return false;
         }
         i += 1;
@@ -71,14 +58,11 @@ fn thousand(edition: u64, window: &mut [u8; 192], n: usize) -> bool {
 
 // A thousand turns from the seed, the first n bytes of `last`, which are then the digest reached.
 fn run(edition: u64, last: &mut [u8; 64], n: usize) -> bool {
-    let seed = *last;
     let mut window = [0u8; 192];
-    push(&mut window, digest_front(&seed, n));
-    push(&mut window, digest_front(&seed, n));
-    push(&mut window, digest_front(&seed, n));
-    let done = thousand(edition, &mut window, n);
-    pull(&window, n, last);
-    done
+    push(&mut window, digest_front(last, n));
+    push(&mut window, digest_front(last, n));
+    push(&mut window, digest_front(last, n));
+    thousand(edition, &mut window, n, last)
 }
 
 // What a line hands on: its edition and the bytes of its digest; and whether it holds.

@@ -5,10 +5,10 @@ use Rattle.monte.proofs.line.thousand.Statement.{statement}
 use Rattle.monte.proofs.line.thousand.Tie as tie
 
 abbrev Inv-loop : tie.InvT-loop
-Inv-loop edition window₀ n i₀ window i = i ≤ 1000
+Inv-loop edition window₀ n last₀ i₀ window last i = i ≤ 1000
 
 abbrev μ-loop : tie.MeasureT-loop
-μ-loop edition window₀ n i₀ window i = 1000 - i
+μ-loop edition window₀ n last₀ i₀ window last i = 1000 - i
 
 pub thousand-spec : {M : Type 1} → statement M
 thousand-spec =
