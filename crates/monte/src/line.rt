@@ -7,9 +7,8 @@ fn digest_front(bytes: &[u8; 64], n: usize) -> &[u8] {
     slices::places::part(bytes, 0, n)
 }
 
-// Puts bytes at the end of the window, of which the foremost go.
-fn push(window: &mut [u8; 192], new: &[u8]) {
-    let n = new.len();
+// Moves the window n bytes on: the foremost go.
+fn shift(window: &mut [u8; 192], n: usize) {
     if 192 < n {
         return;
     }
@@ -19,10 +18,20 @@ fn push(window: &mut [u8; 192], new: &[u8]) {
         window[i] = window[i + n];
         i += 1;
     }
-    let mut j = 0;
-    while j < n {
-        window[keep + j] = new[j];
-        j += 1;
+}
+
+// Puts bytes at the end of the window, of which the foremost go.
+fn push(window: &mut [u8; 192], new: &[u8]) {
+    let n = new.len();
+    if 192 < n {
+        return;
+    }
+    shift(window, n);
+    let keep = 192 - n;
+    let mut i = 0;
+    while i < n {
+        window[keep + i] = new[i];
+        i += 1;
     }
 }
 
