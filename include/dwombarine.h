@@ -69,7 +69,7 @@ uint64_t dw_load(uint64_t *table, size_t words, uint64_t bay, const uint8_t *rec
 /* Tells the bay's edition and the bytes taken, both 0 for an empty bay. 1, 2, 6. */
 uint64_t dw_ask(const uint64_t *table, size_t words, uint64_t bay, uint64_t *edition, uint64_t *count);
 
-/* Empties any bay that is not all zeros, a damaged one too. 1, 2, 4. */
+/* Empties a bay that has a word other than 0, a damaged one too. 1, 2, 4. */
 uint64_t dw_drop(uint64_t *table, size_t words, uint64_t bay);
 
 /* Writes the 32-byte root of the chunk tree of n bytes, at most 1,048,576. 7, 9. */

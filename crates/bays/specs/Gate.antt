@@ -27,7 +27,7 @@ module _ (t : List ℕ) where
   abbrev pub vacant : ℕ → Test
   vacant i = 4 when isEmpty (bayAt t i)
 
-  -- the same, and then 4: what is asked of a bay that must be taken
+  -- the header, the bay and then 4: what is asked of a bay that must be taken
   abbrev pub takenTests : ℕ → List Test
   takenTests i = gateTests i ++ (vacant i ∷ [])
 

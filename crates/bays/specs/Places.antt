@@ -2,6 +2,19 @@
 use Prim.Native.Nat.{ℕ, _+_, _*_, _/_}
 use Rattle.halfread.specs.State.{tailRoom}
 
+-- the header: how many bays, where the first begins, how many words each has, and a zero
+abbrev pub baysWord : ℕ
+baysWord = 0
+
+abbrev pub firstWord : ℕ
+firstWord = 1
+
+abbrev pub sizeWord : ℕ
+sizeWord = 2
+
+abbrev pub zeroWord : ℕ
+zeroWord = 3
+
 -- the header's words, in front of the first bay; and the most bays that a table has
 abbrev pub firstBay : ℕ
 firstBay = 4

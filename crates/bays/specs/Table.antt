@@ -6,11 +6,11 @@ use lib.Dec.{leb, eqb}
 use lib.ListN.{length, drop, getD, replicate}
 use Rattle.slices.specs.Parts.{part, putPart}
 use Rattle.slices.specs.Tests.{holds}
-use Rattle.bays.specs.Places.{firstBay, mostBays, bayWords, placeOf}
+use Rattle.bays.specs.Places.{baysWord, firstWord, sizeWord, zeroWord, firstBay, mostBays, bayWords, placeOf}
 
 -- how many bays the header says
 abbrev pub baysOf : List ℕ → ℕ
-baysOf t = getD t 0 0
+baysOf t = getD t baysWord 0
 
 -- n bays, at least one and no more than the most, in a run of l words
 unfoldable pub roomFor : ℕ → ℕ → Bool
@@ -21,9 +21,9 @@ unfoldable pub headed : List ℕ → Bool
 headed t =
     holds
     (roomFor (baysOf t) (length t)
-    ∷ eqb (getD t 1 0) firstBay
-    ∷ eqb (getD t 2 0) bayWords
-    ∷ eqb (getD t 3 0) 0
+    ∷ eqb (getD t firstWord 0) firstBay
+    ∷ eqb (getD t sizeWord 0) bayWords
+    ∷ eqb (getD t zeroWord 0) 0
     ∷ [])
 
 -- bay i, and the run with other words in its place

@@ -13,9 +13,9 @@ const COUNT: usize = 1;
 
 const CHAIN: usize = 2;
 
-const TAIL: usize = 10;
+const TAIL: usize = CHAIN + 8;
 
-pub(crate) const WORDS: usize = 26;
+pub(crate) const WORDS: usize = TAIL + halfread::TAIL / 8;
 
 // The chaining words are copied, and the words of the tail are made bytes.
 pub(crate) fn unpack(bay: &[u64]) -> HalfRead

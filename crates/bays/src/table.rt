@@ -10,10 +10,22 @@ use crate::bay::WORDS;
 use answers::Answer;
 use slices::zero::clear;
 
+// The header: how many bays, where the first begins, how many words each has, and a zero.
+const BAYS_AT: usize = 0;
+
+const FIRST_AT: usize = 1;
+
+const SIZE_AT: usize = 2;
+
+const ZERO_AT: usize = 3;
+
 // The header's words, in front of the first bay, and the most bays that a table has.
 const FIRST: usize = 4;
 
 const MOST: u64 = 64;
+
+// The words that a table of one bay takes.
+pub const ONE_BAY: usize = FIRST + WORDS;
 
 // Whether so many bays, at least one and no more than the most, find room in a run of so many words.
 fn room_for(bays: u64, len: usize) -> bool
@@ -34,16 +46,16 @@ fn headed(table: &[u64]) -> bool
     if table.len() < FIRST {
         return false;
     }
-    if !room_for(table[0], table.len()) {
+    if !room_for(table[BAYS_AT], table.len()) {
         return false;
     }
-    if table[1] != FIRST as u64 {
+    if table[FIRST_AT] != FIRST as u64 {
         return false;
     }
-    if table[2] != WORDS as u64 {
+    if table[SIZE_AT] != WORDS as u64 {
         return false;
     }
-    table[3] == 0
+    table[ZERO_AT] == 0
 }
 
 // The header and then the bay: what every call on a bay asks first.
@@ -53,7 +65,7 @@ pub fn gate(table: &[u64], bay: u64) -> Answer
     if !headed(table) {
         return Answer::BadTable;
     }
-    if table[0] <= bay {
+    if table[BAYS_AT] <= bay {
         return Answer::NoSuchBay;
     }
     Answer::Done
@@ -77,10 +89,10 @@ pub fn lay_out(table: &mut [u64], bays: u64) -> Answer
         return Answer::BadLayout;
     }
     let end = FIRST + WORDS * bays as usize;
-    table[0] = bays;
-    table[1] = FIRST as u64;
-    table[2] = WORDS as u64;
-    table[3] = 0;
+    table[BAYS_AT] = bays;
+    table[FIRST_AT] = FIRST as u64;
+    table[SIZE_AT] = WORDS as u64;
+    table[ZERO_AT] = 0;
     clear(&mut table[FIRST..end]);
     Answer::Done
 }

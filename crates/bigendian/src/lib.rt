@@ -68,7 +68,7 @@ pub fn put_words(d: &mut [u8], words: &[u64], n: usize)
     }
 }
 
-// Where a part of n bytes ends that starts at a place of so many bytes: before the last of them where there are fewer.
+// Where a part of n bytes ends that starts at a place of so many bytes: behind the last of them where there are fewer.
 fn end_of(at: usize, n: usize, len: usize) -> usize
     requires { ⌜ at ≤ len ⌝ }
     ensures { λ r. ⌜ r ≡ min (at + n) len ⌝ }

@@ -14,7 +14,7 @@ use Rattle.halfread.specs.Steps.{opened, added, closedDigest}
 use Rattle.records.specs.Record.{recordOf, recordLength, loaded, isRecord}
 use Rattle.bays.specs.Table.{putBay, laidOut}
 use Rattle.bays.specs.Bay.{bayOf, emptyBay}
-use Rattle.bays.specs.Gate.{layoutTests, halfAt, gateTests, notSound, occupied, vacant, takenTests}
+use Rattle.bays.specs.Gate.{layoutTests, halfAt, gateTests, notSound, occupied, vacant, takenTests, soundTests}
 
 -- a call with its arguments; the output of a call that has one is the lent buffer as it was
 pub data Call : Type 0 where
@@ -61,7 +61,7 @@ module _ (t : List ℕ) where
       ++ (notSound t i ∷ vacant t i ∷ 8 when not (closingFits x b) ∷ 9 when ltb (length out) (digestBytes (halfAt t i .edition)) ∷ [])
   tests (saving i out) = gateTests t i ++ (notSound t i ∷ vacant t i ∷ 9 when ltb (length out) (recordLength (halfAt t i)) ∷ [])
   tests (loading i bytes) = gateTests t i ++ (10 when not (isRecord bytes) ∷ notSound t i ∷ occupied t i ∷ [])
-  tests (asking i) = gateTests t i ++ (notSound t i ∷ [])
+  tests (asking i) = soundTests t i
   tests (dropping i) = takenTests t i
 
   -- what is left where nothing refuses

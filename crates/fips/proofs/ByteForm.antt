@@ -49,8 +49,8 @@ module _ (b : ℕ) (h : b < 8) where
       (subst (λ (n : ℕ). bits n (x / 2 ^ suc k * 2 ^ suc k + 2 ^ k) ≡ take b (bits n x) ++ (true ∷ replicate k false)) eight
       (bits-closed b k x))
 
-  pub closed-lt : (x : ℕ) → x < 256 → closingByte x b < 256
-  closed-lt x small =
+  pub closing-lt : (x : ℕ) → x < 256 → closingByte x b < 256
+  closing-lt x small =
       let k = 7 - b in
       let q : x / 2 ^ suc k < 2 ^ b = shr-lt b (suc k) (subst (λ (n : ℕ). x < 2 ^ n) (sym eight) small) in
       rw below
@@ -139,7 +139,7 @@ ending-bytes p c x b small h =
     let z = zeros (p .bytes) c in
     let l = 8 * c + b in
     below-append (closingByte x b ∷ replicate z 0) (be (2 * p .bytes) l)
-    (below-cons (replicate z 0) (closed-lt b h x small) (below-replicate z (omega arith)))
+    (below-cons (replicate z 0) (closing-lt b h x small) (below-replicate z (omega arith)))
     (be-bytes (2 * p .bytes) l)
 
 pub hash-bytes : (p : Width) → 0 < p .bytes → (H bytes : List ℕ) (x b : ℕ) → Bytes bytes → x < 256 → b < 8 →

@@ -20,11 +20,11 @@ use Rattle.halfread.specs.State.{blockOf, tailLength, pending, padded, s
 use Rattle.slices.specs.Blocks.{rest}
 use Rattle.halfread.specs.Steps.{waiting, added}
 use Rattle.halfread.proofs.Fields.{same-state}
-use Rattle.halfread.proofs.Rules.{held-lt}
+use Rattle.halfread.proofs.Rules.{tail-lt}
 use Rattle.halfread.proofs.Soundness.{sound-facts, facts-sound}
 use Rattle.halfread.proofs.Tails.{length-padded, take-padded, padded-bytes, length-pending}
 use Rattle.slices.proofs.Blocks.{length-rest, length-whole, rest-small, rest-append}
-use Rattle.sha2.proofs.Limits.{taken-in, length-fits}
+use Rattle.sha2.proofs.Limits.{counted-in, length-fits}
 
 -- ---- what waits
 
@@ -79,7 +79,7 @@ module _ (h : HalfRead) (s : Shaped h) where
   added-none e =
       let f = sound-facts h e s in
       let same : waiting h [] ≡ pending h = append-nil (pending h) in
-      let small : length (pending h) < blockOf h = rw (length-pending h (s .wide)) (held-lt h) in
+      let small : length (pending h) < blockOf h = rw (length-pending h (s .wide)) (tail-lt h) in
       same-state (added h []) h refl (omega arith)
       (ap (absorbed (h .edition) (h .words)) same ∙ absorbed-none (h .edition) (h .words) (pending h) (f .below) small)
       (ap (λ (l : List ℕ). padded (rest (blockOf h) l)) same ∙ ap padded (rest-small (blockOf h) (pending h) small) ∙ sym (f .tail))
@@ -108,7 +108,7 @@ module _ (h : HalfRead) (s : Shaped h) where
       facts-sound (added h a) (added-shaped a bytes room)
       (record {
         known = f .known;
-        limited = taken-in (h .edition) (h .count) (length a) room;
+        limited = counted-in (h .edition) (h .count) (length a) room;
         below = absorbed-below (h .edition) (h .words) (waiting h a);
         tail = ap padded (sym (pending-added h (s .wide) a));
         begun = λ p.

@@ -1,5 +1,5 @@
 -- A begun block is filled from the front of a piece, and the rest of the piece follows: the steps that `with_piece` takes are `added`.
--- Main statements: `taken-short`, where the block is not filled, and `taken-long`, where it is or none was begun.
+-- Main statements: `fills-short`, where the block is not filled, and `fills-long`, where it is or none was begun.
 use Prim.Native.Nat.{ℕ, zero, suc, _+_, _-_, _*_, _/_, _%_, _≤_, _<_}
 use mathlib.Core.Bool.{true}
 use mathlib.Core.List.{List, _++_, append-assoc}
@@ -19,7 +19,7 @@ use Rattle.sha2.proofs.Absorbed.{absorbed-none, absorbed-append}
 use Rattle.halfread.proofs.Adding.{length-waiting}
 use Rattle.slices.proofs.Blocks.{rest-small, rest-append}
 use Rattle.halfread.proofs.Fields.{same-state}
-use Rattle.halfread.proofs.Rules.{held-lt, held-within}
+use Rattle.halfread.proofs.Rules.{tail-lt, tail-within}
 use Rattle.fips.proofs.Sizes.{block-some, block-within}
 use Rattle.halfread.proofs.Soundness.{facts-of, zeros-behind}
 use Rattle.halfread.proofs.Tails.{front-behind, front-padded, length-pending}
@@ -53,23 +53,23 @@ module _ (h : HalfRead) (long : length (h .tail) ≡ tailRoom) (ok : sound h ≡
   filled {from} mid isFrom isMid =
       let zeros : drop from (h .tail) ≡ replicate (tailRoom - from) 0 =
       rw isFrom (zeros-behind h ok long) in
-      front-behind tailRoom from (h .tail) piece mid (omega (arith, held-within h)) long zeros isMid
+      front-behind tailRoom from (h .tail) piece mid (omega (arith, tail-within h)) long zeros isMid
       ∙ ap (λ (n : ℕ). padded (take n (h .tail) ++ piece)) isFrom
 
-  pub taken-short : {size from : ℕ} {tail : List ℕ} → size ≡ blockOf h → from ≡ tailLength h → tail ≡ padded (waiting h piece) →
+  pub fills-short : {size from : ℕ} {tail : List ℕ} → size ≡ blockOf h → from ≡ tailLength h → tail ≡ padded (waiting h piece) →
       length piece < lack size from →
       record { edition = h .edition; count = h .count + length piece; words = h .words; tail = tail } ≡ added h piece
   unfolding added
-  taken-short {size} {from} {tail} isSize isFrom isTail short =
+  fills-short {size} {from} {tail} isSize isFrom isTail short =
       let short′ : length piece < lack (blockOf h) (tailLength h) = rw (isSize, isFrom) at short in
       let small : length (waiting h piece) < blockOf h =
-      rw (length-waiting h long piece) (lack-short (blockOf h) (tailLength h) (length piece) (held-lt h) short′) in
+      rw (length-waiting h long piece) (lack-short (blockOf h) (tailLength h) (length piece) (tail-lt h) short′) in
       let f = facts-of h ok long in
       same-state (record { edition = h .edition; count = h .count + length piece; words = h .words; tail = tail }) (added h piece) refl refl
       (sym (absorbed-none (h .edition) (h .words) (waiting h piece) (f .below) small))
       (isTail ∙ ap padded (sym (rest-small (blockOf h) (waiting h piece) small)))
 
-  pub taken-long : {size from : ℕ} {tail last g v : List ℕ} →
+  pub fills-long : {size from : ℕ} {tail last g v : List ℕ} →
       size ≡ blockOf h → from ≡ tailLength h → tail ≡ padded (waiting h piece) →
       lack size from ≤ length piece →
       g ≡ absorbed (h .edition) (h .words) (take (from + lack size from) tail) →
@@ -77,7 +77,7 @@ module _ (h : HalfRead) (long : length (h .tail) ≡ tailRoom) (ok : sound h ≡
       {cut : ℕ} → cut ≡ length (partTo (lack size from) piece) / size * size → last ≡ padded (partTo cut (partTo (lack size from) piece)) →
       record { edition = h .edition; count = h .count + length piece; words = v; tail = last } ≡ added h piece
   unfolding added
-  taken-long {size} {from} {tail} {last} {g} {v} isSize isFrom isTail enough isG isV {cut} isCut isLast =
+  fills-long {size} {from} {tail} {last} {g} {v} isSize isFrom isTail enough isG isV {cut} isCut isLast =
       let e = h .edition in
       let b = blockOf h in
       let n = tailLength h in
@@ -86,7 +86,7 @@ module _ (h : HalfRead) (long : length (h .tail) ≡ tailRoom) (ok : sound h ≡
       let isM : lack size from ≡ m = ap₂ lack isSize isFrom in
       let A = P ++ take m piece in
       let R = drop m piece in
-      let w = lack-whole b n (held-lt h) in
+      let w = lack-whole b n (tail-lt h) in
       let lp : length P ≡ n = length-pending h long in
       let la : w .0 * b ≡ length A = w .1 ∙ sym (length-append P (take m piece) ∙ ap₂ _+_ lp (length-take-le m piece (omega arith))) in
       let all : waiting h piece ≡ A ++ R =

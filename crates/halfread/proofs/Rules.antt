@@ -21,11 +21,11 @@ use Rattle.slices.proofs.Tests.{fails-at, holds-on, holds-last}
 
 -- ---- the tail
 
-pub held-lt : (h : HalfRead) → tailLength h < blockOf h
-held-lt h = mod-lt (h .count) (block-some (h .edition))
+pub tail-lt : (h : HalfRead) → tailLength h < blockOf h
+tail-lt h = mod-lt (h .count) (block-some (h .edition))
 
-pub held-within : (h : HalfRead) → tailLength h < tailRoom
-held-within h = omega (arith, held-lt h, block-within (h .edition))
+pub tail-within : (h : HalfRead) → tailLength h < tailRoom
+tail-within h = omega (arith, tail-lt h, block-within (h .edition))
 
 -- ---- one rule at a time, as the code asks them
 
@@ -49,8 +49,8 @@ module _ (h : HalfRead) where
   pub past-rule : Kept → blockOf h ≤ h .count → true ≡ sound h
   past-rule k p = sym (last-rule k (rw (le-leb (blockOf h) (h .count) p)))
 
-  pub start-rule : {H : List ℕ} {b : Bool} → Kept → h .count < blockOf h → H ≡ start (h .edition) → b ≡ same (h .words) H → b ≡ sound h
-  start-rule k p q r = sym (last-rule k (rw (lt-leb (blockOf h) (h .count) p) (sym (r ∙ ap (same (h .words)) q))))
+  pub begun-rule : {H : List ℕ} {b : Bool} → Kept → h .count < blockOf h → H ≡ start (h .edition) → b ≡ same (h .words) H → b ≡ sound h
+  begun-rule k p q r = sym (last-rule k (rw (lt-leb (blockOf h) (h .count) p) (sym (r ∙ ap (same (h .words)) q))))
 
   pub zero-rule : {n : ℕ} {b : Bool} → length (h .tail) ≡ tailRoom → n ≡ tailLength h →
       b ≡ allZero (take (tailRoom - n) (drop n (h .tail))) →

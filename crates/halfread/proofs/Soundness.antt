@@ -18,7 +18,7 @@ use Rattle.halfread.specs.declared.HalfRead.{HalfRead}
 use Rattle.slices.specs.Tests.{allZero}
 use Rattle.halfread.specs.State.{blockOf, tailLength, pending, padded, rules, sound, Shaped, tailRoom}
 use Rattle.slices.proofs.Tests.{holds-at, allBelow-below, below-allBelow, allZero-zeros, zeros-allZero, same-eq, eq-same}
-use Rattle.halfread.proofs.Rules.{held-within, Kept, past-rule, start-rule}
+use Rattle.halfread.proofs.Rules.{tail-within, Kept, past-rule, begun-rule}
 use Rattle.halfread.proofs.Tails.{length-pending, padded-room, drop-padded}
 
 pub sound-kept : (h : HalfRead) → sound h ≡ true → Kept h
@@ -58,7 +58,7 @@ facts-of h e long =
           sym (take-append-drop (tailLength h) (h .tail))
           ∙ ap (λ (l : List ℕ). pending h ++ l)
           (zeros-behind h e long ∙ ap (λ (n : ℕ). replicate (tailRoom - n) 0) (sym (length-pending h long)))
-          ∙ sym (padded-room (pending h) (omega (arith, length-pending h long, held-within h)));
+          ∙ sym (padded-room (pending h) (omega (arith, length-pending h long, tail-within h)));
       begun = λ p. same-eq (h .words) (start (h .edition)) (either (lt-leb (blockOf h) (h .count) p) (holds-at (rules h) e 4));
     }
   where
@@ -74,7 +74,7 @@ facts-sound h s f = go (decLe (blockOf h) (h .count))
     zero : allZero (drop (tailLength h) (h .tail)) ≡ true
     zero =
         ap (λ (l : List ℕ). allZero (drop (tailLength h) l)) (f .tail)
-        ∙ ap allZero (drop-padded (pending h) (tailLength h) (omega (arith, held-within h)) (length-pending h (s .wide)))
+        ∙ ap allZero (drop-padded (pending h) (tailLength h) (omega (arith, tail-within h)) (length-pending h (s .wide)))
         ∙ zeros-allZero (tailRoom - tailLength h)
 
     kept : Kept h
@@ -89,4 +89,4 @@ facts-sound h s f = go (decLe (blockOf h) (h .count))
     go : Dec (blockOf h ≤ h .count) → sound h ≡ true
     go (yes p) = sym (past-rule h kept p)
     go (no p) =
-        sym (start-rule h kept (lt-of-not-le p) refl (sym (eq-same (h .words) (start (h .edition)) (f .begun (lt-of-not-le p)))))
+        sym (begun-rule h kept (lt-of-not-le p) refl (sym (eq-same (h .words) (start (h .edition)) (f .begun (lt-of-not-le p)))))

@@ -12,7 +12,7 @@ use Rattle.slices.specs.AtFront.{atFront}
 use Rattle.slices.proofs.AtFront.{length-atFront, drop-copies}
 use Rattle.halfread.specs.declared.HalfRead.{HalfRead}
 use Rattle.halfread.specs.State.{tailLength, pending, padded, tailRoom}
-use Rattle.halfread.proofs.Rules.{held-within}
+use Rattle.halfread.proofs.Rules.{tail-within}
 
 -- bytes in a buffer of zeros
 front-zeros : (size : ℕ) (bs : List ℕ) → atFront bs (replicate size 0) ≡ take size bs ++ replicate (size - length bs) 0
@@ -69,4 +69,4 @@ padded-bytes bs h =
     (below-replicate (tailRoom - length bs) (lit< tt)))
 
 pub length-pending : (h : HalfRead) → length (h .tail) ≡ tailRoom → length (pending h) ≡ tailLength h
-length-pending h e = length-take-le (tailLength h) (h .tail) (omega (arith, held-within h))
+length-pending h e = length-take-le (tailLength h) (h .tail) (omega (arith, tail-within h))

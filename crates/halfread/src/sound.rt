@@ -1,4 +1,4 @@
-// Whether a half-read message is sound: SPEC, "The table of bays". One function for each rule, and `is_sound` asks them all.
+// Whether a half-read message is sound: SPEC, "The table of bays". `is_sound` asks the rules in order.
 ghost use mathlib.Core.Path.{_≡_};
 ghost use Prim.Native.Nat.{_^_};
 ghost use Rattle.fips.specs.Words.{word};

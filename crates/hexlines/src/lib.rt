@@ -5,6 +5,7 @@ ghost use Prim.Native.Nat.{_/_, _≤_, min};
 ghost use lib.ListN.{length, take};
 ghost use Rattle.hexlines.specs.Fields.{place, firstField, otherFields};
 ghost use Rattle.hexlines.specs.Digits.{digitOf, byteOf, isHex, bytesOf, sizeWithin, decimalOf};
+use slices::places::least;
 
 // Where a byte first stands; the length where it stands nowhere.
 pub fn find(s: &[u8], b: u8) -> usize
@@ -78,12 +79,6 @@ pub fn is_hex(s: &[u8]) -> bool
         i += 1;
     }
     s.len() % 2 == 0
-}
-
-fn least(a: usize, b: usize) -> usize
-    ensures { λ r. ⌜ r ≡ min a b ⌝ }
-{
-    if a < b { a } else { b }
 }
 
 // The bytes of the text at the front of d, as many as there is room for, and how many they are.

@@ -38,7 +38,7 @@ use Rattle.halfread.specs.Steps as Steps
 use Rattle.records.specs.Record.{loaded, isRecord}
 use Rattle.halfread.proofs.Fields.{same-state}
 use Rattle.records.proofs.Records.{loaded-sound, loaded-shaped}
-use Rattle.halfread.proofs.Rules.{held-lt}
+use Rattle.halfread.proofs.Rules.{tail-lt}
 use Rattle.halfread.proofs.Soundness.{Sound, sound-facts}
 use Rattle.halfread.proofs.Tails.{take-padded, padded-bytes, length-pending}
 use Rattle.ledger.specs.Ledger.{Entry, Fine, openedEntry, loadedEntry, with, entryLength, stateOf, entryDigest}
@@ -242,7 +242,7 @@ module _ (h : HalfRead) (shaped : Shaped h) (facts : Sound h) where
   unfolding stateOf
   entry-state =
       let p = width (h .edition) in
-      let small : length (pending h) < blockOf h = rw pending-long (held-lt h) in
+      let small : length (pending h) < blockOf h = rw pending-long (tail-lt h) in
       same-state _ _ refl entry-count
       (absorbed-chain (h .edition) (h .words) (pending h) (facts .below)
       ∙ absorbed-none (h .edition) (h .words) (pending h) (facts .below) small)
@@ -260,7 +260,7 @@ module _ (h : HalfRead) (shaped : Shaped h) (facts : Sound h) where
         whole = omega (arith, div-add-mod' (h .count) (blockOf h));
         bytes = below-take (tailLength h) (h .tail) (shaped .bytes);
         within = rw entry-count (facts .limited);
-        begun = λ z. facts .begun (omega (arith, held-lt h, mod-le (h .count) (blockOf h)));
+        begun = λ z. facts .begun (omega (arith, tail-lt h, mod-le (h .count) (blockOf h)));
       }
 
 module _ (bytes : List ℕ) (all : Bytes bytes) (isOne : isRecord bytes ≡ true) where

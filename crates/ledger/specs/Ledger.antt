@@ -1,11 +1,11 @@
 -- The plain ledger: SPEC, "The plain ledger". Of a message in a bay it has every byte since the start words, and hashes them all
 -- anew each time. No word of a table is known to it, and none of its answers is 1 or 6.
-use Prim.Native.Nat.{ℕ, _+_, _-_, _*_, _/_, _^_}
+use Prim.Native.Nat.{ℕ, _+_, _-_, _*_, _^_}
 use mathlib.Core.Bool.{Bool, true, false, not}
 use mathlib.Core.List.{List, [], _∷_, _++_}
 use mathlib.Core.Path.{_≡_}
 use lib.Dec.{leb, ltb}
-use lib.ListN.{length, drop, getD, set, replicate}
+use lib.ListN.{length, getD, set, replicate}
 use Rattle.answers.specs.Judged.{Test, _when_, first, after}
 use Rattle.slices.specs.Below.{Below, Bytes}
 use Rattle.fips.specs.Words.{Width, word, blockBytes}
@@ -13,6 +13,7 @@ use Rattle.fips.specs.Constants.{chain}
 use Rattle.fips.specs.Editions.{known, width, digestBytes, start}
 use Rattle.fips.specs.code.ByteForm.{ending, parseBytes}
 use Rattle.slices.specs.AtFront.{atFront}
+use Rattle.slices.specs.Blocks.{rest}
 use Rattle.sha2.specs.Limit.{tooLong}
 use Rattle.sha2.specs.Closing.{closingFits}
 use Rattle.sha2.specs.code.Hashing.{digestFrom}
@@ -61,7 +62,7 @@ module _ (en : Entry) where
         edition = en .edition;
         count = entryLength;
         words = chain p (en .startWords) (parseBytes p (en .since));
-        tail = padded (drop (length (en .since) / blockBytes p * blockBytes p) (en .since));
+        tail = padded (rest (blockBytes p) (en .since));
       }
 
   -- its digest: all bytes since are hashed again, with a padding that tells the length of all

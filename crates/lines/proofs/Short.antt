@@ -1,5 +1,5 @@
--- In 128 bytes each line is whole: `line-whole` of every entry of a list, `counts-whole` of the counts of up to 256 files, and
--- `not-a-list-whole`. Up to the place that is answered, the output is the line.
+-- In `lineRoom` bytes each line is whole: `line-whole` of every entry of a list, `counts-whole` of the counts of as many files as a list
+-- can name, and `not-a-list-whole`. Up to the place that is answered, the output is the line.
 use Prim.Native.Nat.{ℕ, zero, suc, _+_, _/_, _^_, _≤_, _<_}
 use mathlib.Core.Bool.{Bool, true, false, cond}
 use mathlib.Core.List.{List, [], _∷_}
@@ -13,13 +13,14 @@ use Rattle.fips.specs.Constants.{ascii}
 use Rattle.fips.specs.Editions.{digestBytes}
 use Rattle.lists.specs.Calls.{pairIn}
 use Rattle.lists.specs.Layout.{countIn, readList, accepted}
-use Rattle.lists.specs.Lists.{Pair, pairAllowed}
+use Rattle.lists.specs.Lists.{Pair, pairAllowed, mostEntries, longestName}
 use Rattle.lists.proofs.ByRules.{length-readPairs}
 use Rattle.slices.proofs.Tests.{every-at}
 use Rattle.lists.proofs.Lists.{accepted-valid}
 use Rattle.lists.proofs.Written.{ValidList, valid-list, allowed-pair}
 use Rattle.lines.specs.declared.Verdict.{Verdict}
-use Rattle.lines.specs.Lines.{verdictWord, lineOf, digits, decimal, countLine, notAList, isOk, isBad, isMissing, sum, tallyOf}
+use Rattle.lines.specs.Lines.{lineRoom, verdictWord, lineOf, digits, decimal, countLine, notAList, isOk, isBad, isMissing}
+use Rattle.lines.specs.Lines.{sum, tallyOf}
 use Rattle.lines.specs.code.Putting.{put, behind}
 use Rattle.lines.proofs.Putting.{put-whole}
 use Rattle.lines.proofs.Counting.{at-most-one}
@@ -32,7 +33,7 @@ pub length-pairs : (bs : List ℕ) → length (readList bs .pairs) ≡ countIn b
 unfolding readList
 length-pairs bs = rw length-readPairs
 
-name-short : (bs : List ℕ) (i : ℕ) → accepted bs ≡ true → i < countIn bs → length (pairIn i bs .name) ≤ 64
+name-short : (bs : List ℕ) (i : ℕ) → accepted bs ≡ true → i < countIn bs → length (pairIn i bs .name) ≤ longestName
 unfolding pairIn
 name-short bs i a h =
     let v : ValidList (readList bs) = valid-list (readList bs) (accepted-valid bs a) in
@@ -41,7 +42,7 @@ name-short bs i a h =
     let within = every-at (pairAllowed d) no-pair (readList bs .pairs) (v .allowed) i (omega (arith, length-pairs bs)) in
     allowed-pair d (pairIn i bs) within .short
 
-pub line-whole : (bs : List ℕ) (i : ℕ) (v : Verdict) → accepted bs ≡ true → i < countIn bs → (out : List ℕ) → length out ≡ 128 →
+pub line-whole : (bs : List ℕ) (i : ℕ) (v : Verdict) → accepted bs ≡ true → i < countIn bs → (out : List ℕ) → length out ≡ lineRoom →
     take (behind 0 (lineOf v (pairIn i bs .name)) out) (put 0 (lineOf v (pairIn i bs .name)) out) ≡ lineOf v (pairIn i bs .name)
 unfolding lineOf ascii
 line-whole bs i v a h out long =
@@ -60,7 +61,7 @@ digits-short (suc k) (suc fuel) n h =
     let rest = digits-short k fuel (n / 10) (omega (arith, h, pow-suc 10 (suc k))) in
     simp length-append (omega (arith, cond-short (ltb n 10) (digits fuel (n / 10)) (suc k) rest))
 
-count-short : (n : ℕ) → n ≤ 256 → length (decimal n) ≤ 3
+count-short : (n : ℕ) → n ≤ mostEntries → length (decimal n) ≤ 3
 unfolding decimal
 count-short n h = digits-short 2 (n + 1) n (omega arith)
 
@@ -69,7 +70,7 @@ unfolding sum
 sum-within f one [] = omega arith
 sum-within f one (v ∷ vs) = omega (arith, one v, sum-within f one vs)
 
-pub counts-whole : (vs : List Verdict) → length vs ≤ 256 → (out : List ℕ) → length out ≡ 128 →
+pub counts-whole : (vs : List Verdict) → length vs ≤ mostEntries → (out : List ℕ) → length out ≡ lineRoom →
     take (behind 0 (countLine (tallyOf vs)) out) (put 0 (countLine (tallyOf vs)) out) ≡ countLine (tallyOf vs)
 unfolding countLine ascii
 counts-whole vs few out long =
@@ -80,6 +81,6 @@ counts-whole vs few out long =
     let missing = count-short (t .missing) (omega (arith, sum-within isMissing (λ v. at-most-one v .2) vs)) in
     put-whole (countLine t) out (simp length-append (omega (arith, listed, ok, bad, missing)))
 
-pub not-a-list-whole : (out : List ℕ) → length out ≡ 128 → take (behind 0 notAList out) (put 0 notAList out) ≡ notAList
+pub not-a-list-whole : (out : List ℕ) → length out ≡ lineRoom → take (behind 0 notAList out) (put 0 notAList out) ≡ notAList
 unfolding ascii
 not-a-list-whole out long = put-whole notAList out (omega arith)

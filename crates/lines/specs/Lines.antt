@@ -10,6 +10,10 @@ use Rattle.fips.specs.Constants.{ascii}
 use Rattle.lines.specs.declared.Verdict.{Verdict}
 use Rattle.lines.specs.declared.Tally.{Tally}
 
+-- the bytes in which every line is whole
+abbrev pub lineRoom : ℕ
+lineRoom = 128
+
 abbrev pub verdictWord : Verdict → String
 verdictWord Verdict.Ok = "OK "
 verdictWord Verdict.Bad = "BAD "

@@ -1,6 +1,6 @@
 // The lines that the checker writes: SPEC, "The program". One for each file, the counts, and the one where there is no list.
-// Each is put at the front of an output, and its length is answered; a line that is longer than the output is cut, and in 128 bytes each is
-// whole (`line-whole`, `counts-whole`, `not-a-list-whole`). Nothing here opens, reads or writes a file.
+// Each is put at the front of an output, and its length is answered; a line that is longer than the output is cut, and in `ROOM` bytes each
+// is whole (`line-whole`, `counts-whole`, `not-a-list-whole`). Nothing here opens, reads or writes a file.
 ghost use mathlib.Core.Path.{_≡_};
 ghost use mathlib.Core.List.{_++_};
 ghost use Rattle.fips.specs.Constants.{ascii};
@@ -12,6 +12,9 @@ ghost use Rattle.lines.specs.code.Putting.{Put};
 mod text; // text.rt: one text behind another in an output
 
 use crate::text::append;
+
+// The bytes in which every line is whole.
+pub const ROOM: usize = 128;
 
 pub enum Verdict {
     // its bytes have the digest that is listed

@@ -8,7 +8,7 @@ use Rattle.bigendian.specs.Rows.{Field, _for_is_, rowBytes, fieldIn}
 use Rattle.fips.specs.Editions.{digestBytes}
 use Rattle.slices.specs.Parts.{part}
 use Rattle.slices.specs.Tests.{holds, same}
-use Rattle.lists.specs.Lists.{Pair, DigestList, valid}
+use Rattle.lists.specs.Lists.{Pair, DigestList, mostEntries, longestName, valid}
 
 -- ---- where things stand
 
@@ -58,9 +58,9 @@ entrySize d = entryHead + d
 abbrev pub namesAt : ℕ → ℕ → ℕ
 namesAt n d = entriesAt + n * entrySize d
 
--- no list is longer: the header, 256 entries with digests of 64 bytes, and as many names of 64 bytes
+-- no list is longer: the header, and the most entries, with digests of 64 bytes and the longest names
 unfoldable pub longestList : ℕ
-longestList = 34832
+longestList = namesAt mostEntries 64 + mostEntries * longestName
 
 -- ---- laid out
 

@@ -15,6 +15,10 @@ ghost use Rattle.answers.specs.Numbers.{numberOf};
 ghost use Rattle.lists.specs.Calls.{listedDigest, found, judgeTests};
 ghost use Rattle.lists.specs.Layout.{accepted};
 
+// No list is longer: the header, and the most entries, with digests of 64 bytes and the longest names.
+pub const LONGEST: usize = fields::ENTRIES_AT
+    + rules::MOST_ENTRIES * (fields::ENTRY_HEAD + 64 + names::LONGEST);
+
 // What looking for a name finds.
 pub enum Found {
     // its digest: where it starts in the list, and how long it is

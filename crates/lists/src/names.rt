@@ -4,7 +4,7 @@ ghost use Rattle.slices.specs.Tests.{every};
 ghost use Rattle.lists.specs.Lists.{inName, nameAllowed};
 
 // House: the longest name.
-const LONGEST: usize = 64;
+pub(crate) const LONGEST: usize = 64;
 
 fn in_name(b: u8) -> bool
     ensures { λ r. ⌜ r ≡ inName b ⌝ }

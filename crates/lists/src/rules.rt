@@ -18,7 +18,7 @@ ghost use Rattle.lists.specs.Layout.{entriesAt, entryHead};
 ghost use Rattle.lists.specs.code.Rules.{offsetsRight, headerRight, entryRight, entriesRight};
 
 // House: so many entries at most.
-const MOST_ENTRIES: usize = 256;
+pub(crate) const MOST_ENTRIES: usize = 256;
 
 // The names' offset may lie past the end: it is checked here, and nowhere later.
 fn offsets_right(list: &[u8], names: usize) -> bool

@@ -23,15 +23,8 @@ use Rattle.halfread.specs.State.{tailLength, pending, padded, sound, Shaped}
 use Rattle.halfread.proofs.Fields.{same-state}
 use Rattle.halfread.proofs.Soundness.{Sound, sound-facts}
 use Rattle.halfread.proofs.Tails.{length-pending, length-padded, padded-bytes}
-use Rattle.records.specs.Record.{Form, newest, wordCount, countAt, wordsAt, tailAt, lengthIn, header, recordIn, readIn, isRecordIn}
-
--- the count's field has room for every count of a state, and holds no more than those
-pub record Fits (f : Form) : Type 0 where
-  pub saves : 2 ^ 64 ≤ 256 ^ f .countBytes
-  pub loads : 256 ^ f .countBytes ≤ 2 ^ 64
-
-pub newest-fits : Fits newest
-newest-fits = record { saves = omega arith; loads = omega arith }
+use Rattle.records.specs.Record.{Form, wordCount, numberBytes, editionAt, countAt, wordsAt, tailAt, lengthIn, header}
+use Rattle.records.specs.Record.{recordIn, readIn, isRecordIn}
 
 -- ---- what a record looks like
 
@@ -72,16 +65,17 @@ module _ (f : Form) (h : HalfRead) where
 -- ---- loading any bytes
 
 module _ (f : Form) (bytes : List ℕ) where
-  pub form-loaded-shaped : Fits f → Bytes bytes → Shaped (readIn f bytes)
+  -- where the count's field holds no more than a state's count
+  pub form-loaded-shaped : 256 ^ f .countBytes ≤ 2 ^ 64 → Bytes bytes → Shaped (readIn f bytes)
   unfolding readIn
-  form-loaded-shaped fits all =
-      let e = fieldIn bytes 0 2 in
+  form-loaded-shaped holds-few all =
+      let e = fieldIn bytes editionAt numberBytes in
       let n = width e .bytes in
       record {
         eight = length-toWords wordCount n (drop (wordsAt f) bytes);
         wide = length-padded (drop (tailAt f e) bytes);
-        number = omega (arith, field-lt bytes 0 2 all);
-        counted = lt-of-lt-of-le (field-lt bytes countAt (f .countBytes) all) (fits .loads);
+        number = omega (arith, field-lt bytes editionAt numberBytes all);
+        counted = lt-of-lt-of-le (field-lt bytes countAt (f .countBytes) all) holds-few;
         fitting =
             below-more (toWords wordCount n (drop (wordsAt f) bytes)) (pow-le-pow-right {n = 256} (omega arith) (bytes-within e))
             (toWords-below wordCount n (drop (wordsAt f) bytes) (below-drop (wordsAt f) bytes all));
@@ -100,9 +94,9 @@ module _ (f : Form) (bytes : List ℕ) where
 pub form-one-record : (f : Form) (a b : List ℕ) → isRecordIn f a ≡ true → isRecordIn f b ≡ true → readIn f a ≡ readIn f b → a ≡ b
 form-one-record f a b p q e = sym (form-loaded-saves f a p) ∙ ap (recordIn f) e ∙ form-loaded-saves f b q
 
--- ---- loading a record
+-- ---- loading a record, where the count's field has room for every count of a state
 
-module _ (f : Form) (fits : Fits f) (h : HalfRead) (isSound : sound h ≡ true) (s : Shaped h) where
+module _ (f : Form) (room : 2 ^ 64 ≤ 256 ^ f .countBytes) (h : HalfRead) (isSound : sound h ≡ true) (s : Shaped h) where
   facts : Sound h
   facts = sound-facts h isSound s
 
@@ -116,13 +110,13 @@ module _ (f : Form) (fits : Fits f) (h : HalfRead) (isSound : sound h ≡ true) 
   unfolding R recordIn
   past-header = drop-at (rowBytes (header f h)) behind (wordsAt f) (length-front f h)
 
-  edition-read : fieldIn R 0 2 ≡ h .edition
+  edition-read : fieldIn R editionAt numberBytes ≡ h .edition
   unfolding R recordIn header
   edition-read = field-read (header f h) behind 0 refl (omega (arith, known-small (h .edition) (facts .known)))
 
   count-read : fieldIn R countAt (f .countBytes) ≡ h .count
   unfolding R recordIn header
-  count-read = field-read (header f h) behind 4 refl (lt-of-lt-of-le (s .counted) (fits .saves))
+  count-read = field-read (header f h) behind 4 refl (lt-of-lt-of-le (s .counted) room)
 
   words-read : toWords wordCount (B f h) (drop (wordsAt f) R) ≡ h .words
   words-read =

@@ -4,12 +4,13 @@ use Prim.Native.Nat.{ℕ}
 use mathlib.Core.Bool.{true}
 use mathlib.Core.List.{List}
 use mathlib.Core.Path.{_≡_, sym, ap, _∙_}
+use native.Mathlib.Omega.{arith}
 use lib.ListN.{length}
 use Rattle.slices.specs.Below.{Bytes}
 use Rattle.halfread.specs.declared.HalfRead.{HalfRead}
 use Rattle.halfread.specs.State.{sound, Shaped}
 use Rattle.records.specs.Record.{newest, recordLength, recordOf, loaded, isRecord}
-use Rattle.records.proofs.Forms.{newest-fits, length-recordIn, recordIn-bytes, form-loaded-shaped, form-loaded-sound}
+use Rattle.records.proofs.Forms.{length-recordIn, recordIn-bytes, form-loaded-shaped, form-loaded-sound}
 use Rattle.records.proofs.Forms.{form-loaded-saves, form-one-record, form-saved-loads}
 
 pub length-recordOf : (h : HalfRead) → Shaped h → length (recordOf h) ≡ recordLength h
@@ -19,7 +20,7 @@ pub recordOf-bytes : (h : HalfRead) → Shaped h → Bytes (recordOf h)
 recordOf-bytes h s = recordIn-bytes newest h s
 
 pub loaded-shaped : (bytes : List ℕ) → Bytes bytes → Shaped (loaded bytes)
-loaded-shaped bytes all = form-loaded-shaped newest bytes newest-fits all
+loaded-shaped bytes all = form-loaded-shaped newest bytes (omega arith) all
 
 pub loaded-sound : (bytes : List ℕ) → isRecord bytes ≡ true → sound (loaded bytes) ≡ true
 loaded-sound bytes e = form-loaded-sound newest bytes e
@@ -31,7 +32,7 @@ pub one-record : (a b : List ℕ) → isRecord a ≡ true → isRecord b ≡ tru
 one-record a b p q e = form-one-record newest a b p q e
 
 pub saved-loads : (h : HalfRead) → sound h ≡ true → Shaped h → (loaded (recordOf h) ≡ h) × (isRecord (recordOf h) ≡ true)
-saved-loads h ok s = form-saved-loads newest newest-fits h ok s
+saved-loads h ok s = form-saved-loads newest (omega arith) h ok s
 
 -- r is a record, and what it loads is h
 pub record RecordOf (h : HalfRead) (r : List ℕ) : Type 0 where

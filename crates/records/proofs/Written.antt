@@ -19,7 +19,7 @@ use Rattle.fips.proofs.Editions.{width-some}
 use Rattle.fips.proofs.Sizes.{bytes-within}
 use Rattle.halfread.specs.declared.HalfRead.{HalfRead}
 use Rattle.halfread.specs.State.{blockOf, tailLength, pending, tailRoom}
-use Rattle.halfread.proofs.Rules.{held-within}
+use Rattle.halfread.proofs.Rules.{tail-within}
 use Rattle.halfread.proofs.Tails.{length-pending}
 use Rattle.records.specs.Record.{Form, wordCount, wordsAt, tailAt, lengthIn, header, recordIn}
 use Rattle.records.proofs.Forms.{length-header, length-front}
@@ -33,7 +33,7 @@ module _ (f : Form) where
   tailAt-within e = omega (arith, bytes-within e)
 
   pub lengthIn-within : (h : HalfRead) → lengthIn f h ≤ longest
-  lengthIn-within h = omega (arith, tailAt-within (h .edition), held-within h)
+  lengthIn-within h = omega (arith, tailAt-within (h .edition), tail-within h)
 
   module _ (h : HalfRead) (eight : length (h .words) ≡ wordCount) (wide : length (h .tail) ≡ tailRoom) where
     abbrev n : ℕ

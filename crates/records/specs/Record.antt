@@ -24,14 +24,20 @@ newest = record { countBytes = 8; zeroBytes = 4 }
 abbrev pub wordCount : ℕ
 wordCount = 8
 
--- where the count begins
+-- the bytes of an edition, an offset or a length; where the edition stands, and where the count begins
+abbrev pub numberBytes : ℕ
+numberBytes = 2
+
+abbrev pub editionAt : ℕ
+editionAt = 0
+
 abbrev pub countAt : ℕ
 countAt = 8
 
 module _ (f : Form) where
   -- where the words begin, and the tail behind them
   abbrev pub wordsAt : ℕ
-  wordsAt = countAt + f .countBytes + 2 + 2 + f .zeroBytes
+  wordsAt = countAt + f .countBytes + numberBytes + numberBytes + f .zeroBytes
 
   abbrev pub tailAt : ℕ → ℕ
   tailAt e = wordsAt + wordCount * width e .bytes
@@ -43,14 +49,14 @@ module _ (f : Form) where
     -- the fields as SPEC's table has them, each where the one before it ends
     unfoldable pub header : List Field
     header =
-        0 for 2 is h .edition
-        ∷ 2 for 2 is wordCount
-        ∷ 4 for 2 is wordsAt
-        ∷ 6 for 2 is tailAt (h .edition)
+        editionAt for numberBytes is h .edition
+        ∷ 2 for numberBytes is wordCount
+        ∷ 4 for numberBytes is wordsAt
+        ∷ 6 for numberBytes is tailAt (h .edition)
         ∷ countAt for f .countBytes is h .count
-        ∷ (countAt + f .countBytes) for 2 is tailLength h
-        ∷ (countAt + f .countBytes + 2) for 2 is lengthIn
-        ∷ (countAt + f .countBytes + 2 + 2) for f .zeroBytes is 0
+        ∷ (countAt + f .countBytes) for numberBytes is tailLength h
+        ∷ (countAt + f .countBytes + numberBytes) for numberBytes is lengthIn
+        ∷ (countAt + f .countBytes + numberBytes + numberBytes) for f .zeroBytes is 0
         ∷ []
 
     unfoldable pub recordIn : List ℕ
@@ -59,7 +65,7 @@ module _ (f : Form) where
   -- the state that the fields of bytes give: edition, bytes taken, words and tail
   unfoldable pub readIn : List ℕ → HalfRead
   readIn bytes =
-      let e : ℕ = fieldIn bytes 0 2 in
+      let e : ℕ = fieldIn bytes editionAt numberBytes in
       record {
         edition = e;
         count = fieldIn bytes countAt (f .countBytes);

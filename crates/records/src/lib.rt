@@ -19,17 +19,20 @@ use slices::front::put_front;
 use slices::places::part;
 use slices::same::same_bytes;
 
-// The newest form: where the count begins and the bytes that it takes, the zeros that close the header, and where the words begin.
-const COUNT_AT: usize = 8;
+// The newest form: the bytes of a number, where the count begins and the bytes that it takes, the zeros that close the header, and where
+// the words begin, behind four numbers, the count, two numbers and the zeros.
+const NUMBER: usize = 2;
+
+const COUNT_AT: usize = 4 * NUMBER;
 
 const COUNT_BYTES: usize = 8;
 
 const ZERO_BYTES: usize = 4;
 
-const WORDS_AT: usize = 24;
+const WORDS_AT: usize = COUNT_AT + COUNT_BYTES + 2 * NUMBER + ZERO_BYTES;
 
-// The longest record has eight words of 64 bits and a tail of 127 bytes.
-const LONGEST: usize = 215;
+// The longest record has eight words of 64 bits and a tail that wants one byte of a block.
+const LONGEST: usize = WORDS_AT + 8 * 8 + halfread::TAIL - 1;
 
 // Where the tail begins, behind eight words.
 fn tail_at(edition: u64) -> usize
@@ -54,7 +57,16 @@ fn record_of(half: HalfRead) -> [u8; LONGEST]
     let end = tail_length(edition, half.count);
     let at = tail_at(edition);
     let whole = record_length(half);
-    let sizes = [2, 2, 2, 2, COUNT_BYTES, 2, 2, ZERO_BYTES];
+    let sizes = [
+        NUMBER,
+        NUMBER,
+        NUMBER,
+        NUMBER,
+        COUNT_BYTES,
+        NUMBER,
+        NUMBER,
+        ZERO_BYTES,
+    ];
     let values = [
         edition,
         8,
@@ -93,7 +105,7 @@ pub fn save(half: HalfRead, out: &mut [u8]) -> Answer
 fn fields(bytes: &[u8]) -> HalfRead
     ensures { λ r. ⌜ r ≡ loaded (now (bytes .entry)) ⌝ }
 {
-    let edition = field(bytes, 0, 2);
+    let edition = field(bytes, 0, NUMBER);
     let count = field(bytes, COUNT_AT, COUNT_BYTES);
     let mut words = [0u64; 8];
     bigendian::get_words(

@@ -29,8 +29,8 @@ module _ (e : ℕ) where
     pub shorter : (m : ℕ) → m ≤ n → tooLong e c m ≡ false
     shorter m h = within-limit c m (omega (arith, limit-within))
 
-    pub taken-in : tooLong e (c + n) 0 ≡ false
-    taken-in = within-limit (c + n) 0 (omega (arith, limit-within))
+    pub counted-in : tooLong e (c + n) 0 ≡ false
+    counted-in = within-limit (c + n) 0 (omega (arith, limit-within))
 
   -- what is too long stays so with more behind it
   pub longer : (c n m : ℕ) → n ≤ m → tooLong e c n ≡ true → tooLong e c m ≡ true

@@ -33,8 +33,8 @@ write-digest-settled e H out = value-settled
 pub closing-fits-settled : (x b : ℕ) {r s : Bool} → r ≡ closingFits x b → s ≡ closingFits x b → r ≡ s
 closing-fits-settled x b = value-settled
 
-pub closed-byte-settled : (x b : ℕ) {r s : ℕ} → r ≡ closingByte x (b % 8) → s ≡ closingByte x (b % 8) → r ≡ s
-closed-byte-settled x b = value-settled
+pub closing-byte-settled : (x b : ℕ) {r s : ℕ} → r ≡ closingByte x (b % 8) → s ≡ closingByte x (b % 8) → r ≡ s
+closing-byte-settled x b = value-settled
 
 pub length-field-settled : (c b : ℕ) {r s : List ℕ} → r ≡ be 16 (8 * c + b % 8) → s ≡ be 16 (8 * c + b % 8) → r ≡ s
 length-field-settled c b = value-settled

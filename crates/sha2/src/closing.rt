@@ -24,7 +24,7 @@ pub fn closing_fits(closing: u8, bits: u64) -> bool
 }
 
 // The closing byte as it is hashed: its upper bits, a 1 bit, zeros. Bits count modulo 8.
-pub fn closed_byte(closing: u8, bits: u64) -> u8
+pub fn closing_byte(closing: u8, bits: u64) -> u8
     ensures { λ r. ⌜ r ≡ closingByte closing (bits % 8) ⌝ }
 {
     let count = bits % 8;

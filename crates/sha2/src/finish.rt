@@ -7,7 +7,7 @@ ghost use Rattle.fips.specs.Words.{blockBytes};
 ghost use Rattle.fips.specs.code.ByteForm.{closingByte};
 ghost use Rattle.fips.specs.Sizes.{widthOf};
 ghost use Rattle.sha2.specs.code.Hashing.{lastLength, lastBytes, finished};
-use crate::closing::closed_byte;
+use crate::closing::closing_byte;
 use crate::closing::length_field;
 use crate::hashing::absorb;
 use fips::lookup::block_size;
@@ -33,7 +33,7 @@ fn with_closing(tail: &[u8], closing: u8, bits: u64) -> [u8; 256]
 {
     let mut buffer = [0u8; 256];
     put_front(&mut buffer, tail);
-    buffer[tail.len()] = closed_byte(closing, bits);
+    buffer[tail.len()] = closing_byte(closing, bits);
     buffer
 }
 

@@ -8,8 +8,6 @@ use lines::Verdict;
 use lists::entries;
 use report::file;
 
-const LONGEST_LIST: usize = 34832;
-
 // Writes the line of n bytes at the front of a buffer. One that cannot be written ends the program, so that what is written is always the
 // beginning of what is to be.
 fn write(out: &[u8], n: usize) -> bool {
@@ -25,25 +23,25 @@ fn verdict(list: &[u8], i: usize, table: &mut [u64]) -> Verdict {
 }
 
 fn write_line(verdict: Verdict, list: &[u8], i: usize) -> bool {
-    let mut out = [0u8; 128];
+    let mut out = [0u8; lines::ROOM];
     let n = lines::line(verdict, list, i, &mut out);
     write(&out, n)
 }
 
 fn write_counts(tally: Tally) {
-    let mut out = [0u8; 128];
+    let mut out = [0u8; lines::ROOM];
     let n = lines::counts(tally, &mut out);
     write(&out, n);
 }
 
 fn write_not_a_list() {
-    let mut out = [0u8; 128];
+    let mut out = [0u8; lines::ROOM];
     let n = lines::not_a_list(&mut out);
     write(&out, n);
 }
 
 fn check(list: &[u8]) {
-    let mut table = [0u64; 30];
+    let mut table = [0u64; bays::table::ONE_BAY];
     let mut tally = Tally {
         listed: 0,
         ok: 0,
@@ -66,7 +64,7 @@ fn check(list: &[u8]) {
 // A buffer of one byte more than the longest list has: bytes that fill it are no list (`list-short` of `lists`), and nor are the no bytes
 // of a list that cannot be read.
 fn main() {
-    let mut buffer = [0u8; LONGEST_LIST + 1];
+    let mut buffer = [0u8; lists::LONGEST + 1];
     let n = reading::whole(b"yard.man", &mut buffer);
     let list = &buffer[..n];
     if lists::is_list(list) {

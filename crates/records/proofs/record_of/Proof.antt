@@ -39,8 +39,8 @@ part-bytes-end-2 c =
     omega
     (arith, length-put (wordsAt newest) (longest newest - wordsAt newest) (r .last .0) (w .last .0) (w .kept .0), r .kept .0)
 
-tail-within : tie.Need-array-share-prefix-tail
-tail-within c =
+tail-fits : tie.Need-array-share-prefix-tail
+tail-fits c =
     let o = at-place (c .before) .before in
     let small : o .tail-length .result < tailRoom = rest-within _ _ (o .tail-length .ensures) in
     omega (arith, wide o)
@@ -69,6 +69,6 @@ record-of-spec =
     (λ c. search needs) (λ c. search needs) (λ c. search needs)
     (λ c. search needs) (λ c κs. search needs) (λ c κs. search needs)
     (λ c. at-within (at-place c)) (λ c. at-within (at-place c)) part-bytes-end-2
-    tail-within
-    (λ c. sym (length-take-le _ _ (tail-within (c .before))))
+    tail-fits
+    (λ c. sym (length-take-le _ _ (tail-fits (c .before))))
     (λ c κs. search needs) returns)

@@ -13,8 +13,8 @@ use Rattle.halfread.specs.declared.HalfRead.{HalfRead}
 use Rattle.halfread.specs.State.{padded, sound, tailRoom}
 use Rattle.halfread.specs.Steps.{waiting}
 use Rattle.sha2.proofs.Limits.{length-fits}
-use Rattle.halfread.proofs.Filling.{lack, lack-whole, filled, taken-short, taken-long}
-use Rattle.halfread.proofs.Rules.{held-lt, held-within}
+use Rattle.halfread.proofs.Filling.{lack, lack-whole, filled, fills-short, fills-long}
+use Rattle.halfread.proofs.Rules.{tail-lt, tail-within}
 use Rattle.fips.proofs.Sizes.{block-some, block-within}
 use Rattle.halfread.proofs.Tails.{length-padded}
 use Rattle.halfread.proofs.add.with_piece.Statement.{statement}
@@ -36,10 +36,10 @@ size-some : (c : tie.After-tail-length) → 0 < c .before .block-bytes .result
 size-some c = omega (arith, c .before .block-bytes .ensures, block-some (half c .edition))
 
 from-lt : (c : tie.After-tail-length) → c .tail-length .result < c .before .block-bytes .result
-from-lt c = omega (arith, c .before .block-bytes .ensures, c .tail-length .ensures, held-lt (half c))
+from-lt c = omega (arith, c .before .block-bytes .ensures, c .tail-length .ensures, tail-lt (half c))
 
 from-within : (c : tie.After-tail-length) → c .tail-length .result ≤ tailRoom
-from-within c = omega (arith, c .tail-length .ensures, held-within (half c))
+from-within c = omega (arith, c .tail-length .ensures, tail-within (half c))
 
 part-tail-end : tie.Need-part-tail-end
 part-tail-end c = omega (arith, wide c)
@@ -63,7 +63,7 @@ returns : tie.Need-returns
 unfolding joined
 returns c =
     let o = c .before .before .before .before in
-    taken-short (half o) (wide o) (is-sound o) (piece o) (o .before .block-bytes .ensures) (o .tail-length .ensures) (is-joined (c .before))
+    fills-short (half o) (wide o) (is-sound o) (piece o) (o .before .block-bytes .ensures) (o .tail-length .ensures) (is-joined (c .before))
     (c .if1 .taken)
 
 end-within : (c : tie.Else1) → c .before .before .before .before .tail-length .result
@@ -88,7 +88,7 @@ unfolding joined
 returns-2 c =
     let l = c .before .before .before .before .before .before .before in
     let o = l .before .before .before .before in
-    taken-long (half o) (wide o) (is-sound o) (piece o) (o .before .block-bytes .ensures) (o .tail-length .ensures) (is-joined (l .before))
+    fills-long (half o) (wide o) (is-sound o) (piece o) (o .before .block-bytes .ensures) (o .tail-length .ensures) (is-joined (l .before))
     (l .if1 .left)
     (c .before .before .before .before .before .absorb .ensures)
     (c .before .before .before .absorb2 .ensures)

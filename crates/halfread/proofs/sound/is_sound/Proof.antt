@@ -5,7 +5,7 @@ use native.Mathlib.Omega.{arith}
 use lib.ListN.{length}
 use borrow.Author.Needs.{needs}
 use borrow.Author.Tests.{not-true, not-false}
-use Rattle.halfread.proofs.Rules.{unsound, Kept, past-rule, start-rule, zero-rule, below-rule}
+use Rattle.halfread.proofs.Rules.{unsound, Kept, past-rule, begun-rule, zero-rule, below-rule}
 use Rattle.halfread.proofs.Sizes.{rest-within}
 use Rattle.halfread.specs.State.{tailRoom}
 use Rattle.halfread.proofs.sound.is_sound.Statement.{statement}
@@ -66,7 +66,7 @@ returns-6 : tie.Need-returns-6
 returns-6 c =
     let w = c .before .before .before in
     let b = w .before .before in
-    start-rule _ (kept (b .before)) (omega (arith, b .block-bytes .ensures)) (w .starting-words .ensures) (c .same-words .ensures)
+    begun-rule _ (kept (b .before)) (omega (arith, b .block-bytes .ensures)) (w .starting-words .ensures) (c .same-words .ensures)
 
 pub is-sound-spec : {M : Type 1} → statement M
 is-sound-spec =

@@ -12,7 +12,7 @@ use Rattle.sha2.proofs.finish.with_closing.Tie as tie
 returns : tie.Need-returns
 returns c =
     let tail = c .before .before .before .before .before .args .tail .now in
-    ap₂ (λ (l : List ℕ) (x : ℕ). set l (length tail) x) (c .before .before .put-front .ensures) (c .closed-byte .ensures)
+    ap₂ (λ (l : List ℕ) (x : ℕ). set l (length tail) x) (c .before .before .put-front .ensures) (c .closing-byte .ensures)
     ∙ tail-and-byte 255 tail _ (omega (arith, c .before .before .before .before .before .pre))
 
 pub with-closing-spec : {M : Type 1} → statement M
