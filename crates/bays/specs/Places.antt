@@ -1,6 +1,6 @@
 -- Where everything stands in the lent run of words: SPEC, "The table of bays". Each number of the layout stands here once.
 use Prim.Native.Nat.{ℕ, _+_, _*_, _/_}
-use Rattle.halfread.specs.State.{tailRoom}
+use Rattle.halfread.specs.State.{chainRoom, tailRoom}
 
 -- the header: how many bays, where the first begins, how many words each has, and a zero
 abbrev pub baysWord : ℕ
@@ -33,7 +33,7 @@ abbrev pub chainFrom : ℕ
 chainFrom = 2
 
 abbrev pub chainWords : ℕ
-chainWords = 8
+chainWords = chainRoom
 
 abbrev pub tailFrom : ℕ
 tailFrom = chainFrom + chainWords

@@ -13,7 +13,10 @@ use Rattle.sha2.specs.Limit.{tooLong}
 use Rattle.halfread.specs.declared.HalfRead.{HalfRead}
 use Rattle.slices.specs.Tests.{holds, allBelow, allZero, same}
 
--- how many bytes a tail has room for: those of the longest block
+-- how many chaining words a state has; and how many bytes its tail has room for: those of the longest block
+abbrev pub chainRoom : ℕ
+chainRoom = 8
+
 abbrev pub tailRoom : ℕ
 tailRoom = 128
 
@@ -44,7 +47,7 @@ module _ (h : HalfRead) where
 
 -- the state of an empty bay: all zeros
 unfoldable pub blank : HalfRead
-blank = record { edition = 0; count = 0; words = replicate 8 0; tail = replicate tailRoom 0 }
+blank = record { edition = 0; count = 0; words = replicate chainRoom 0; tail = replicate tailRoom 0 }
 
 -- the bytes of a tail with zeros behind them
 abbrev pub padded : List ℕ → List ℕ
@@ -52,7 +55,7 @@ padded bytes = atFront bytes (replicate tailRoom 0)
 
 -- what every value of the struct has, whatever it holds: eight words of 64 bits and the bytes of a tail
 pub record Shaped (h : HalfRead) : Type 0 where
-  pub eight : length (h .words) ≡ 8
+  pub eight : length (h .words) ≡ chainRoom
   pub wide : length (h .tail) ≡ tailRoom
   pub number : h .edition < 2 ^ 64
   pub counted : h .count < 2 ^ 64

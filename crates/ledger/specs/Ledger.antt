@@ -18,7 +18,7 @@ use Rattle.sha2.specs.Limit.{tooLong}
 use Rattle.sha2.specs.Closing.{closingFits}
 use Rattle.sha2.specs.code.Hashing.{digestFrom}
 use Rattle.halfread.specs.declared.HalfRead.{HalfRead}
-use Rattle.halfread.specs.State.{tailLength, pending, padded}
+use Rattle.halfread.specs.State.{chainRoom, tailLength, pending, padded}
 use Rattle.records.specs.Record.{recordOf, loaded, isRecord}
 use Rattle.bays.specs.Table.{roomFor}
 use Rattle.calls.specs.Calls.{Call, layOut, opening, adding, closing, saving, loading, asking, dropping, outputOf, Told, told}
@@ -75,7 +75,7 @@ module _ (en : Entry) where
 -- edition begins if nothing stands before
 pub record Fine (en : Entry) : Type 0 where
   pub isKnown : known (en .edition) ≡ true
-  pub eight : length (en .startWords) ≡ 8
+  pub eight : length (en .startWords) ≡ chainRoom
   pub below : Below (2 ^ word (width (en .edition))) (en .startWords)
   pub blocks : ℕ
   pub whole : en .before ≡ blocks * blockBytes (width (en .edition))

@@ -11,7 +11,7 @@ use Rattle.bigendian.specs.Rows.{Field, _for_is_, rowBytes, fieldIn}
 use Rattle.bigendian.specs.Words.{fromWords, toWords}
 use Rattle.fips.specs.Editions.{width}
 use Rattle.halfread.specs.declared.HalfRead.{HalfRead}
-use Rattle.halfread.specs.State.{tailLength, pending, padded, sound}
+use Rattle.halfread.specs.State.{chainRoom, tailLength, pending, padded, sound}
 
 pub record Form : Type 0 where
   pub countBytes : ℕ
@@ -22,7 +22,7 @@ newest = record { countBytes = 8; zeroBytes = 4 }
 
 -- how many chaining words a record holds
 abbrev pub wordCount : ℕ
-wordCount = 8
+wordCount = chainRoom
 
 -- the bytes of an edition, an offset or a length; where the edition stands, and where the count begins
 abbrev pub numberBytes : ℕ
