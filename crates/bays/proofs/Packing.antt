@@ -8,7 +8,7 @@ use native.Mathlib.Omega.{arith}
 use lib.ListN.{length, take, drop, getD, set, replicate, length-append, length-take, length-drop, length-set}
 use lib.ListN.{take-append-drop, drop-of-length-le}
 use lib.Seq.{take-at, drop-at, drop-cons, drop-drop, take-all}
-use Rattle.bigendian.specs.BigEndian.{be, word64}
+use Rattle.bigendian.specs.BigEndian.{be, word64, number}
 use Rattle.slices.specs.Below.{Below, Bytes}
 use Rattle.bigendian.specs.Words.{fromWords, toWords, withWords}
 use Rattle.slices.proofs.Below.{below-cons, below-append, below-take, below-drop}
@@ -150,6 +150,10 @@ zeros-empty = zeros-allZero bayWords
 pub empty-zeros : (b : List ℕ) → length b ≡ bayWords → isEmpty b ≡ true → b ≡ emptyBay
 unfolding isEmpty
 empty-zeros b fits e = allZero-zeros b e ∙ ap (λ (n : ℕ). replicate n 0) fits
+
+pub bayOf-blank : bayOf blank ≡ emptyBay
+unfolding bayOf blank toWords number
+bayOf-blank = refl
 
 pub halfOf-empty : halfOf emptyBay ≡ blank
 unfolding halfOf blank fromWords be

@@ -19,7 +19,6 @@ use answers::Answer;
 use halfread::HalfRead;
 use halfread::sound::is_sound;
 use halfread::state::blank;
-use slices::zero::clear;
 use slices::zero::words_zero;
 
 fn empty_at(table: &[u64], bay: u64) -> bool
@@ -141,16 +140,11 @@ pub fn put_at(table: &mut [u64], bay: u64, half: HalfRead)
     pack(&mut table[at..end], half);
 }
 
+// The bay emptied, which is the blank message in its place.
 pub fn clear_at(table: &mut [u64], bay: u64)
     ensures { λ _.
         ⌜ now (table .exit) ≡ after (first (gateTests (now (table .entry)) bay)) (now (table .entry))
         (putBay (now (table .entry)) bay emptyBay) ⌝ }
 {
-    let passed = gate(table, bay);
-    let Answer::Done = passed else {
-        return;
-    };
-    let at = place(bay, table.len());
-    let end = at + WORDS;
-    clear(&mut table[at..end]);
+    put_at(table, bay, blank());
 }
