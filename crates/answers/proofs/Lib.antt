@@ -1,3 +1,4 @@
 pub mod Outcome
 pub mod Tests
 pub mod Refusals
+pub mod Settled

@@ -1,0 +1,2 @@
+-- Contracts that settle what they show.
+pub mod Values

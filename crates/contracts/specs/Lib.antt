@@ -1,0 +1,2 @@
+-- Contracts as hypotheses: read from the top.
+pub mod Says
