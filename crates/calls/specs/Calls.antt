@@ -1,6 +1,6 @@
 -- The calls on the table: which refuses when, and what it leaves. SPEC, "Calls and their numbers".
 -- `Outcome` and `Asks` say what a call did; `run` is one call as a value: its answer, what ask tells, table and output after it.
-use Prim.Native.Nat.{ℕ}
+use Prim.Native.Nat.{ℕ, _^_, _<_}
 use mathlib.Core.Bool.{not}
 use mathlib.Core.List.{List, [], _∷_, _++_}
 use lib.Dec.{ltb}
@@ -8,6 +8,7 @@ use lib.ListN.{length}
 use Rattle.answers.specs.Judged.{Test, _when_, first, after, Lent, lent, Judged}
 use Rattle.fips.specs.Editions.{known, digestBytes}
 use Rattle.slices.specs.AtFront.{atFront}
+use Rattle.slices.specs.Below.{Below, Bytes}
 use Rattle.sha2.specs.Limit.{tooLong}
 use Rattle.sha2.specs.Closing.{closingFits}
 use Rattle.halfread.specs.Steps.{opened, added, closedDigest}
@@ -48,6 +49,22 @@ outputOf (saving i out) = out
 outputOf (loading i bytes) = []
 outputOf (asking i) = []
 outputOf (dropping i) = []
+
+-- what a caller passes: pieces and records are bytes, and so is a closing byte; every number and every output buffer is taken
+abbrev pub Passed : Call → Type 0
+Passed (layOut n) = Unit {0}
+Passed (opening i e) = Unit {0}
+Passed (adding i piece) = Bytes piece
+Passed (closing i x b out) = x < 256
+Passed (saving i out) = Unit {0}
+Passed (loading i bytes) = Bytes bytes
+Passed (asking i) = Unit {0}
+Passed (dropping i) = Unit {0}
+
+-- what is lent to a call: a table of words of 64 bits, and what a caller passes. The types of the functions see to it, and each call
+-- hands it on in its contract, so that no theorem about calls that were made has to ask for it
+abbrev pub Lends : List ℕ → Call → Type 0
+Lends t c = Below (2 ^ 64) t × Passed c
 
 module _ (t : List ℕ) where
   -- the refusals in order

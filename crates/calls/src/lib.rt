@@ -1,7 +1,7 @@
 // Layer 2, the calls on the table of bays: SPEC, "Calls and their numbers". A call asks the table, takes its step, and writes one bay.
 ghost use mathlib.Core.List.{[]};
 ghost use Rattle.answers.specs.Numbers.{numberOf};
-ghost use Rattle.calls.specs.Calls.{Call, told, Outcome, Asks};
+ghost use Rattle.calls.specs.Calls.{Call, told, Lends, Outcome, Asks};
 use answers::Answer;
 use bays::in_place::clear_at;
 use bays::in_place::gate_free;
@@ -14,12 +14,14 @@ use bays::table::gate;
 // The header, and zeros in so many bays; what lies behind them is the caller's.
 pub fn lay_out(table: &mut [u64], bays: u64) -> Answer
     ensures { λ r. ⌜ Outcome (now (table .entry)) (Call.layOut bays) (numberOf r) (now (table .exit)) [] ⌝ }
+    ensures { λ _. ⌜ Lends (now (table .entry)) (Call.layOut bays) ⌝ }
 {
     bays::table::lay_out(table, bays)
 }
 
 pub fn open(table: &mut [u64], bay: u64, edition: u64) -> Answer
     ensures { λ r. ⌜ Outcome (now (table .entry)) (Call.opening bay edition) (numberOf r) (now (table .exit)) [] ⌝ }
+    ensures { λ _. ⌜ Lends (now (table .entry)) (Call.opening bay edition) ⌝ }
 {
     let passed = gate(table, bay);
     let Answer::Done = passed else {
@@ -38,6 +40,7 @@ pub fn open(table: &mut [u64], bay: u64, edition: u64) -> Answer
 
 pub fn add(table: &mut [u64], bay: u64, piece: &[u8]) -> Answer
     ensures { λ r. ⌜ Outcome (now (table .entry)) (Call.adding bay (now (piece .entry))) (numberOf r) (now (table .exit)) [] ⌝ }
+    ensures { λ _. ⌜ Lends (now (table .entry)) (Call.adding bay (now (piece .entry))) ⌝ }
 {
     let taken = taken_at(table, bay);
     let passed = taken.answer;
@@ -60,6 +63,7 @@ pub fn close(table: &mut [u64], bay: u64, closing: u8, bits: u64, out: &mut [u8]
     ensures { λ r.
         ⌜ Outcome (now (table .entry)) (Call.closing bay closing bits (now (out .entry))) (numberOf r) (now (table .exit))
         (now (out .exit)) ⌝ }
+    ensures { λ _. ⌜ Lends (now (table .entry)) (Call.closing bay closing bits (now (out .entry))) ⌝ }
 {
     let taken = taken_at(table, bay);
     let passed = taken.answer;
@@ -78,6 +82,7 @@ pub fn close(table: &mut [u64], bay: u64, closing: u8, bits: u64, out: &mut [u8]
 pub fn save(table: &[u64], bay: u64, out: &mut [u8]) -> Answer
     ensures { λ r.
         ⌜ Outcome (now (table .entry)) (Call.saving bay (now (out .entry))) (numberOf r) (now (table .exit)) (now (out .exit)) ⌝ }
+    ensures { λ _. ⌜ Lends (now (table .entry)) (Call.saving bay (now (out .entry))) ⌝ }
 {
     let taken = taken_at(table, bay);
     let passed = taken.answer;
@@ -90,6 +95,7 @@ pub fn save(table: &[u64], bay: u64, out: &mut [u8]) -> Answer
 
 pub fn load(table: &mut [u64], bay: u64, record: &[u8]) -> Answer
     ensures { λ r. ⌜ Outcome (now (table .entry)) (Call.loading bay (now («record» .entry))) (numberOf r) (now (table .exit)) [] ⌝ }
+    ensures { λ _. ⌜ Lends (now (table .entry)) (Call.loading bay (now («record» .entry))) ⌝ }
 {
     let passed = gate(table, bay);
     let Answer::Done = passed else {
@@ -118,6 +124,7 @@ pub struct Asked {
 
 pub fn ask(table: &[u64], bay: u64) -> Asked
     ensures { λ r. ⌜ Asks (now (table .entry)) bay (numberOf (r .answer)) (told (r .edition) (r .count)) ⌝ }
+    ensures { λ _. ⌜ Lends (now (table .entry)) (Call.asking bay) ⌝ }
 {
     let held = sound_at(table, bay);
     let answer = held.answer;
@@ -132,6 +139,7 @@ pub fn ask(table: &[u64], bay: u64) -> Asked
 // Any bay that is not all zeros is emptied, sound or not: so a damaged bay can be used again.
 pub fn drop(table: &mut [u64], bay: u64) -> Answer
     ensures { λ r. ⌜ Outcome (now (table .entry)) (Call.dropping bay) (numberOf r) (now (table .exit)) [] ⌝ }
+    ensures { λ _. ⌜ Lends (now (table .entry)) (Call.dropping bay) ⌝ }
 {
     let passed = gate_taken(table, bay);
     let Answer::Done = passed else {

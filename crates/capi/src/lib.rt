@@ -3,7 +3,7 @@
 ghost use mathlib.Core.List.{[]};
 ghost use mathlib.Core.Path.{_≡_};
 ghost use Rattle.answers.specs.Judged.{first};
-ghost use Rattle.calls.specs.Calls.{Call, told, Outcome, Asks};
+ghost use Rattle.calls.specs.Calls.{Call, told, Lends, Outcome, Asks};
 ghost use Rattle.lists.specs.Calls.{found, judgeTests};
 ghost use Rattle.sha2.specs.Hash.{Hashes};
 ghost use Rattle.tree.specs.Tree.{Trees};
@@ -26,6 +26,7 @@ pub extern "C" fn dw_hash(
 #[no_mangle]
 pub extern "C" fn dw_lay_out(table: &mut [u64], bays: u64) -> u64
     ensures { λ r. ⌜ Outcome (now (table .entry)) (Call.layOut bays) r (now (table .exit)) [] ⌝ }
+    ensures { λ _. ⌜ Lends (now (table .entry)) (Call.layOut bays) ⌝ }
 {
     answers::number(calls::lay_out(table, bays))
 }
@@ -33,6 +34,7 @@ pub extern "C" fn dw_lay_out(table: &mut [u64], bays: u64) -> u64
 #[no_mangle]
 pub extern "C" fn dw_open(table: &mut [u64], bay: u64, edition: u64) -> u64
     ensures { λ r. ⌜ Outcome (now (table .entry)) (Call.opening bay edition) r (now (table .exit)) [] ⌝ }
+    ensures { λ _. ⌜ Lends (now (table .entry)) (Call.opening bay edition) ⌝ }
 {
     answers::number(calls::open(table, bay, edition))
 }
@@ -40,6 +42,7 @@ pub extern "C" fn dw_open(table: &mut [u64], bay: u64, edition: u64) -> u64
 #[no_mangle]
 pub extern "C" fn dw_add(table: &mut [u64], bay: u64, piece: &[u8]) -> u64
     ensures { λ r. ⌜ Outcome (now (table .entry)) (Call.adding bay (now (piece .entry))) r (now (table .exit)) [] ⌝ }
+    ensures { λ _. ⌜ Lends (now (table .entry)) (Call.adding bay (now (piece .entry))) ⌝ }
 {
     answers::number(calls::add(table, bay, piece))
 }
@@ -54,6 +57,7 @@ pub extern "C" fn dw_close(
 ) -> u64
     ensures { λ r.
         ⌜ Outcome (now (table .entry)) (Call.closing bay closing bits (now (out .entry))) r (now (table .exit)) (now (out .exit)) ⌝ }
+    ensures { λ _. ⌜ Lends (now (table .entry)) (Call.closing bay closing bits (now (out .entry))) ⌝ }
 {
     answers::number(calls::close(table, bay, closing, bits, out))
 }
@@ -62,6 +66,7 @@ pub extern "C" fn dw_close(
 pub extern "C" fn dw_save(table: &[u64], bay: u64, out: &mut [u8]) -> u64
     ensures { λ r.
         ⌜ Outcome (now (table .entry)) (Call.saving bay (now (out .entry))) r (now (table .exit)) (now (out .exit)) ⌝ }
+    ensures { λ _. ⌜ Lends (now (table .entry)) (Call.saving bay (now (out .entry))) ⌝ }
 {
     answers::number(calls::save(table, bay, out))
 }
@@ -69,6 +74,7 @@ pub extern "C" fn dw_save(table: &[u64], bay: u64, out: &mut [u8]) -> u64
 #[no_mangle]
 pub extern "C" fn dw_load(table: &mut [u64], bay: u64, record: &[u8]) -> u64
     ensures { λ r. ⌜ Outcome (now (table .entry)) (Call.loading bay (now («record» .entry))) r (now (table .exit)) [] ⌝ }
+    ensures { λ _. ⌜ Lends (now (table .entry)) (Call.loading bay (now («record» .entry))) ⌝ }
 {
     answers::number(calls::load(table, bay, record))
 }
@@ -76,6 +82,7 @@ pub extern "C" fn dw_load(table: &mut [u64], bay: u64, record: &[u8]) -> u64
 #[no_mangle]
 pub extern "C" fn dw_drop(table: &mut [u64], bay: u64) -> u64
     ensures { λ r. ⌜ Outcome (now (table .entry)) (Call.dropping bay) r (now (table .exit)) [] ⌝ }
+    ensures { λ _. ⌜ Lends (now (table .entry)) (Call.dropping bay) ⌝ }
 {
     answers::number(calls::drop(table, bay))
 }
@@ -84,6 +91,7 @@ pub extern "C" fn dw_drop(table: &mut [u64], bay: u64) -> u64
 #[no_mangle]
 pub extern "C" fn dw_ask(table: &[u64], bay: u64, edition: &mut u64, count: &mut u64) -> u64
     ensures { λ r. ⌜ Asks (now (table .entry)) bay r (told (now (edition .exit)) (now (count .exit))) ⌝ }
+    ensures { λ _. ⌜ Lends (now (table .entry)) (Call.asking bay) ⌝ }
 {
     let asked = calls::ask(table, bay);
     let answer = asked.answer;

@@ -28,7 +28,7 @@ use Rattle.bays.specs.Gate.{halfAt}
 use Rattle.ledger.specs.Ledger.{Entry, Fine, FineSlot, Slot, nothing, entry, openedEntry, loadedEntry, with, entryLength, stateOf}
 use Rattle.ledger.specs.Ledger.{isEntry, slotEdition, slotLength, slotRecord, slotDigest, slotWith, ledgerTests, kept, written}
 use Rattle.ledger.specs.Ledger.{saying}
-use Rattle.ledger.specs.Promise.{Passed}
+use Rattle.calls.specs.Calls.{Passed}
 use Rattle.ledger.proofs.Entries.{state-shaped, added-entry, digest-entry, with-fine, opened-state, opened-fine, loaded-state}
 use Rattle.ledger.proofs.Entries.{loaded-fine}
 use Rattle.ledger.proofs.Follows.{Follows, at, shown, gated, passed-gate, put-follows, laid-follows, half-slot, state-count}

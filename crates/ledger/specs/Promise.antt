@@ -1,24 +1,12 @@
 -- The ledger's promise, as one statement: after a layout that is done, over memory that held anything, every sequence of calls gives
 -- answer for answer and byte for byte what the plain ledger gives. The theorem is `ledger`. SPEC, "The plain ledger".
-use Prim.Native.Nat.{ℕ, _<_, _≤_}
+use Prim.Native.Nat.{ℕ, _≤_}
 use mathlib.Core.List.{List, [], _∷_}
 use mathlib.Core.Path.{_≡_}
 use lib.ListN.{length, replicate}
-use Rattle.slices.specs.Below.{Bytes}
 use Rattle.bays.specs.Table.{baysOf}
-use Rattle.calls.specs.Calls.{Call, layOut, opening, adding, closing, saving, loading, asking, dropping, Seen, run}
+use Rattle.calls.specs.Calls.{Call, layOut, opening, adding, closing, saving, loading, asking, dropping, Passed, Seen, run}
 use Rattle.ledger.specs.Ledger.{Slot, nothing, keep}
-
--- what a caller can pass: pieces and records are bytes, and so is a closing byte; every number and every output buffer is taken
-abbrev pub Passed : Call → Type 0
-Passed (layOut n) = Unit {0}
-Passed (opening i e) = Unit {0}
-Passed (adding i piece) = Bytes piece
-Passed (closing i x b out) = x < 256
-Passed (saving i out) = Unit {0}
-Passed (loading i bytes) = Bytes bytes
-Passed (asking i) = Unit {0}
-Passed (dropping i) = Unit {0}
 
 abbrev pub AllPassed : List Call → Type 0
 AllPassed [] = Unit {0}

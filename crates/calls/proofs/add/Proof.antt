@@ -4,17 +4,24 @@ use borrow.Author.Needs.{needs}
 use Rattle.answers.specs.Numbers.{numberOf}
 use Rattle.answers.proofs.Refusals.{refuses, done-leaves}
 use Rattle.bays.proofs.Header.{Taken, taken-passed, gate-writes}
+use Rattle.calls.specs.Calls.{Lends, adding}
 use Rattle.calls.proofs.Judging.{add-stopped, add-refused, added-at}
 use Rattle.calls.proofs.add.Statement.{statement}
 use Rattle.calls.proofs.add.Tie as tie
 
+lends : (c : tie.After-shared-slice-known) → Lends (c .before .before .args .table .now)
+    (adding (c .before .before .args .bay) (c .before .before .args .piece .now))
+lends c = ((λ i. c .before .slice-known .given i .fits), (λ i. c .shared-slice-known .given i .fits))
+
 returns : tie.Need-returns
 returns c =
     let s = c .before .before .before .before .before in
-    let k = c .before .taken-at in
-    add-stopped (s .args .table .now) (s .args .bay) (k .result .answer) (k .ensures .answer)
-    (refuses (k .result .answer) (c .match .keys2))
-    (s .args .piece .now)
+    let k = c .before .taken-at in (
+      add-stopped (s .args .table .now) (s .args .bay) (k .result .answer) (k .ensures .answer)
+          (refuses (k .result .answer) (c .match .keys2))
+          (s .args .piece .now),
+      lends (c .before .before .before),
+    )
 
 abbrev start : tie.After-enum-told → tie.Start
 start c = c .before .before .before .before .before .before
@@ -27,10 +34,12 @@ returns-2 c =
     let a = c .before in
     let e = a .before .before in
     let s = start e in
-    let k = e .before .before .taken-at in
-    add-refused (s .args .table .now) (s .args .bay) (ready e .gate) (s .args .piece .now) (ready e .full) (a .add .result .answer)
-    (k .result .half) (a .add .result .half) (done-leaves (k .ensures) (e .enum-told .given .1)) (a .add .ensures)
-    (refuses (a .add .result .answer) (c .match2 .keys2))
+    let k = e .before .before .taken-at in (
+      add-refused (s .args .table .now) (s .args .bay) (ready e .gate) (s .args .piece .now) (ready e .full) (a .add .result .answer)
+          (k .result .half) (a .add .result .half) (done-leaves (k .ensures) (e .enum-told .given .1)) (a .add .ensures)
+          (refuses (a .add .result .answer) (c .match2 .keys2)),
+      lends (e .before .before .before .before),
+    )
 
 returns-3 : tie.Need-returns-3
 returns-3 c =
@@ -38,10 +47,12 @@ returns-3 c =
     let a = p .before .before .before .before .before in
     let e = a .before .before in
     let s = start e in
-    let k = e .before .before .taken-at in
-    added-at (s .args .table .now) (s .args .bay) (ready e .gate) (s .args .piece .now) (ready e .full) (a .add .result .answer)
-    (k .result .half) (a .add .result .half) (done-leaves (k .ensures) (e .enum-told .given .1)) (a .add .ensures)
-    (p .before .before .before .enum-told2 .given .1) (p .put-at .last .0) (p .put-at .ensures ∙ gate-writes _ _ (ready e .gate))
+    let k = e .before .before .taken-at in (
+      added-at (s .args .table .now) (s .args .bay) (ready e .gate) (s .args .piece .now) (ready e .full) (a .add .result .answer)
+          (k .result .half) (a .add .result .half) (done-leaves (k .ensures) (e .enum-told .given .1)) (a .add .ensures)
+          (p .before .before .before .enum-told2 .given .1) (p .put-at .last .0) (p .put-at .ensures ∙ gate-writes _ _ (ready e .gate)),
+      lends (e .before .before .before .before),
+    )
 
 pub add-spec : {M : Type 1} → statement M
 add-spec =

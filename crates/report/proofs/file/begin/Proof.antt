@@ -8,7 +8,7 @@ returns : tie.Need-returns
 returns c =
     let o = c .before .before in
     let l = o .before .before .before .before .before in
-    begins _ _ (l .lay-out .ensures) (o .«open» .ensures) (o .before .edition .ensures)
+    begins _ _ (l .lay-out .ensures .0) (o .«open» .ensures .0) (o .before .edition .ensures)
 
 pub begin-spec : {M : Type 1} → statement M
 begin-spec =

@@ -18,7 +18,7 @@ use Rattle.report.proofs.file.judge.Statement.{statement}
 use Rattle.report.proofs.file.judge.Tie as tie
 
 returns : tie.Need-returns
-returns c = unclosed _ _ _ (c .before .before .before .before .before .close .ensures) (c .before .number .ensures) (c .if1 .taken)
+returns c = unclosed _ _ _ (c .before .before .before .before .before .close .ensures .0) (c .before .number .ensures) (c .if1 .taken)
 
 short : (n e : ℕ) (to : List ℕ) → n ≡ digestBytes e → length to ≡ 64 → n ≤ length to
 short n e to p l = omega (arith, digest-short e)
@@ -41,7 +41,7 @@ decided : (c : tie.After-same-bytes) (b : Bool) → c .same-bytes .result ≡ b 
 decided c b e =
     let d = c .before .before .before in
     let n = d .before .before .before in
-    compares _ _ _ _ _ _ _ _ (n .before .before .before .before .close .ensures) (n .number .ensures) (d .before .before .if1 .left)
+    compares _ _ _ _ _ _ _ _ (n .before .before .before .before .close .ensures .0) (n .number .ensures) (d .before .before .if1 .left)
     (d .digest-bytes .ensures) (d .before .edition .ensures) (c .before .digest .ensures) (c .same-bytes .ensures) e
 
 pub judge-spec : {M : Type 1} → statement M
