@@ -4,6 +4,7 @@ use mathlib.Core.Bool.{Bool, true, false}
 use mathlib.Core.List.{List, _∷_, _++_, map, append-assoc}
 use mathlib.Core.Path.{_≡_, refl, sym, ap, ap₂, subst, _∙_}
 use native.Mathlib.Nat.{mul-div-mul-left, mul-div-cancel, mul-mod-left, mul-comm, mod-eq-of-lt, le-of-lt, lt-suc-self}
+use native.Mathlib.Nat.{zero-add}
 use native.Mathlib.Omega.{arith}
 use lib.Arith.{digits-lt, mod-mul}
 use lib.ListN.{length, take, drop, replicate, length-append, length-take, replicate-append-replicate}
@@ -83,28 +84,43 @@ zeros-bytes w c b some h =
 join : (A T R S L : List Bool) → A ++ T ++ (true ∷ (R ++ S)) ++ L ≡ A ++ ((T ++ (true ∷ R)) ++ S ++ L)
 join A T R S L = simp append-assoc
 
+-- what follows bytes that stand behind `before` others: the upper b bits, the 1 bit, the zeros, and the length of all
+module _ (p : Width) (some : 0 < p .bytes) (before : ℕ) (bytes : List ℕ) (x b : ℕ) (h : b < 8) where
+  abbrev whole : ℕ
+  whole = 8 * before + length (message bytes x b)
+
+  pub behind-bytes : message bytes x b ++ (true ∷ replicate (zeros (word p) whole) false) ++ bits (2 * word p) whole
+      ≡ bitsOf (bytes ++ ending p (before + length bytes) x b)
+  unfolding message ending bitsOf
+  behind-bytes =
+      let c = before + length bytes in
+      let z = zeros (p .bytes) c in
+      let l = 8 * c + b in
+      let closing = closingByte x b ∷ replicate z 0 in
+      let long : whole ≡ l = omega (arith, length-message bytes x b (le-of-lt h)) in
+      let count : zeros (word p) whole ≡ 7 - b + 8 * z =
+      ap (zeros (word p)) long ∙ zeros-bytes (p .bytes) c b some h
+      in
+      let fill = ap (λ (n : ℕ). replicate n false) count ∙ sym (replicate-append-replicate (7 - b) (8 * z) false) in
+      let twice : 2 * word p ≡ 8 * (2 * p .bytes) = omega arith in
+      ap₂ (λ (f t : List Bool). bitsOf bytes ++ take b (bits 8 x) ++ (true ∷ f) ++ t) fill
+      (ap₂ bits twice long ∙ sym (bitsOf-be (2 * p .bytes) l))
+      ∙ join (bitsOf bytes) (take b (bits 8 x)) (replicate (7 - b) false) (replicate (8 * z) false) (bitsOf (be (2 * p .bytes) l))
+      ∙ sym
+      (bitsOf-append bytes (closing ++ be (2 * p .bytes) l)
+      ∙ ap (λ (m : List Bool). bitsOf bytes ++ m)
+      (bitsOf-append closing (be (2 * p .bytes) l)
+      ∙ ap₂ (λ (m n : List Bool). m ++ n ++ bitsOf (be (2 * p .bytes) l)) (bits-closing b h x) (bitsOf-zeros z)))
+
+-- so a whole message is padded: nothing stands before it
 pub pad-bytes : (p : Width) → 0 < p .bytes → (bytes : List ℕ) (x b : ℕ) → b < 8 →
     pad p (message bytes x b) ≡ bitsOf (bytes ++ ending p (length bytes) x b)
-unfolding pad message ending bitsOf
+unfolding pad
 pad-bytes p some bytes x b h =
-    let c = length bytes in
-    let z = zeros (p .bytes) c in
-    let l = 8 * c + b in
-    let closing = closingByte x b ∷ replicate z 0 in
-    let long = length-message bytes x b (le-of-lt h) in
-    let count : zeros (word p) (length (message bytes x b)) ≡ 7 - b + 8 * z =
-    ap (zeros (word p)) long ∙ zeros-bytes (p .bytes) c b some h
-    in
-    let fill = ap (λ (n : ℕ). replicate n false) count ∙ sym (replicate-append-replicate (7 - b) (8 * z) false) in
-    let twice : 2 * word p ≡ 8 * (2 * p .bytes) = omega arith in
-    ap₂ (λ (f t : List Bool). bitsOf bytes ++ take b (bits 8 x) ++ (true ∷ f) ++ t) fill
-    (ap₂ bits twice long ∙ sym (bitsOf-be (2 * p .bytes) l))
-    ∙ join (bitsOf bytes) (take b (bits 8 x)) (replicate (7 - b) false) (replicate (8 * z) false) (bitsOf (be (2 * p .bytes) l))
-    ∙ sym
-    (bitsOf-append bytes (closing ++ be (2 * p .bytes) l)
-    ∙ ap (λ (m : List Bool). bitsOf bytes ++ m)
-    (bitsOf-append closing (be (2 * p .bytes) l)
-    ∙ ap₂ (λ (m n : List Bool). m ++ n ++ bitsOf (be (2 * p .bytes) l)) (bits-closing b h x) (bitsOf-zeros z)))
+    let m : List Bool = message bytes x b in
+    ap (λ (l : ℕ). m ++ (true ∷ replicate (zeros (word p) l) false) ++ bits (2 * word p) l) (sym (zero-add (length m)))
+    ∙ behind-bytes p some 0 bytes x b h
+    ∙ ap (λ (c : ℕ). bitsOf (bytes ++ ending p c x b)) (zero-add (length bytes))
 
 -- ---- parsing
 
@@ -133,7 +149,7 @@ parse-bytes p bytes h =
 
 -- ---- the digest
 
-ending-bytes : (p : Width) (c x b : ℕ) → x < 256 → b < 8 → Bytes (ending p c x b)
+pub ending-bytes : (p : Width) (c x b : ℕ) → x < 256 → b < 8 → Bytes (ending p c x b)
 unfolding ending
 ending-bytes p c x b small h =
     let z = zeros (p .bytes) c in

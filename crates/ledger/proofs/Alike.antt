@@ -19,10 +19,10 @@ use Rattle.halfread.proofs.Soundness.{facts-sound}
 use Rattle.bays.specs.Table.{roomFor, laidOut, putBay}
 use Rattle.bays.specs.Bay.{bayOf}
 use Rattle.calls.specs.Calls.{Call}
-use Rattle.ledger.specs.Ledger.{Entry, Fine, FineSlot, Slot, nothing, entry, openedEntry, loadedEntry, with, stateOf}
+use Rattle.ledger.specs.Ledger.{Entry, Fine, FineSlot, Slot, nothing, entry, openedEntry, loadedEntry, with, entryRecord}
 use Rattle.ledger.specs.Ledger.{slotRecord, Ready, SameRecords}
 use Rattle.ledger.specs.Promise.{AllPassed, saidOf}
-use Rattle.ledger.proofs.Entries.{state-facts, state-shaped, opened-fine, with-fine, loaded-state, loaded-fine}
+use Rattle.ledger.proofs.Entries.{stateOf, record-entry, state-facts, state-shaped, opened-fine, with-fine, loaded-state, loaded-fine}
 use Rattle.ledger.proofs.Follows.{Follows, slotBay, put-follows, laid-follows}
 use Rattle.ledger.proofs.Ledger.{follows-all}
 
@@ -81,16 +81,16 @@ module _ (L : ℕ) (l : List Slot) (ready : Ready L l) where
 state-sound : (a : Entry) → Fine a → sound (stateOf a) ≡ true
 state-sound a f = facts-sound (stateOf a) (state-shaped a f) (state-facts a f)
 
-state-loads : (a : Entry) → Fine a → (loaded (recordOf (stateOf a)) ≡ stateOf a) × (isRecord (recordOf (stateOf a)) ≡ true)
-state-loads a f = saved-loads (stateOf a) (state-sound a f) (state-shaped a f)
+state-loads : (a : Entry) → Fine a → (loaded (entryRecord a) ≡ stateOf a) × (isRecord (entryRecord a) ≡ true)
+state-loads a f = rw (record-entry a f) (saved-loads (stateOf a) (state-sound a f) (state-shaped a f))
 
-same-state : (a b : Entry) → Fine a → Fine b → recordOf (stateOf a) ≡ recordOf (stateOf b) → stateOf a ≡ stateOf b
+same-state : (a b : Entry) → Fine a → Fine b → entryRecord a ≡ entryRecord b → stateOf a ≡ stateOf b
 same-state a b f g e =
     sym (state-loads a f .0) ∙ ap loaded e ∙ state-loads b g .0
 
 -- a record has some bytes
-some-bytes : (a : Entry) → Fine a → [] ≡ recordOf (stateOf a) → ⊥
-some-bytes a f e = omega (arith, ap length e ∙ length-recordOf (stateOf a) (state-shaped a f))
+some-bytes : (a : Entry) → Fine a → [] ≡ entryRecord a → ⊥
+some-bytes a f e = omega (arith, ap length (e ∙ record-entry a f) ∙ length-recordOf (stateOf a) (state-shaped a f))
 
 same-bay : (r s : Slot) → FineSlot r → FineSlot s → slotRecord r ≡ slotRecord s → slotBay r ≡ slotBay s
 same-bay nothing nothing f g e = refl
@@ -141,7 +141,7 @@ set-records l i r s h e = record { bays = length-set l i r ∙ sym (length-set l
 
 -- the record of a message: open an entry, give it the bytes, and take its record
 abbrev pub recordOfMessage : ℕ → List ℕ → List ℕ
-recordOfMessage e m = recordOf (stateOf (with (openedEntry e) m))
+recordOfMessage e m = entryRecord (with (openedEntry e) m)
 
 pub counts-as : (L : ℕ) (l : List Slot) (i e : ℕ) (m : List ℕ) → Ready L l → i < length l → known e ≡ true → Bytes m →
     tooLong e 0 (length m) ≡ false → (calls : List Call) → AllPassed calls →
@@ -151,11 +151,13 @@ counts-as L l i e m r h k all short calls g =
     let fine : Fine en = with-fine (openedEntry e) (opened-fine e k) m all short in
     let shaped = state-shaped en fine in
     let loads = state-loads en fine in
-    let bytes = recordOf-bytes (stateOf en) shaped in
+    let bytes : Bytes (entryRecord en) = rw (record-entry en fine) (recordOf-bytes (stateOf en) shaped) in
     let rec = recordOfMessage e m in
     alike L (set l i (entry (loadedEntry rec))) (set l i (entry en))
     (set-ready L l i (entry (loadedEntry rec)) r (loaded-fine rec bytes (loads .1)) h)
     (set-ready L l i (entry en) r fine h)
     (set-records l i (entry (loadedEntry rec)) (entry en) h
-    (ap recordOf (loaded-state rec bytes (loads .1)) ∙ loaded-saves rec (loads .1)))
+    (record-entry (loadedEntry rec) (loaded-fine rec bytes (loads .1))
+    ∙ ap recordOf (loaded-state rec bytes (loads .1))
+    ∙ loaded-saves rec (loads .1)))
     calls g

@@ -25,12 +25,14 @@ use Rattle.bays.specs.Table.{roomFor, bayAt, putBay, laidOut}
 use Rattle.bays.specs.Bay.{halfOf, bayOf, isEmpty, soundBay}
 use Rattle.calls.specs.Calls.{Call, layOut, opening, adding, closing, saving, loading, asking, dropping, tests, leaves, told, tells}
 use Rattle.bays.specs.Gate.{halfAt}
-use Rattle.ledger.specs.Ledger.{Entry, Fine, FineSlot, Slot, nothing, entry, openedEntry, loadedEntry, with, entryLength, stateOf}
+use Rattle.ledger.specs.Ledger.{Entry, Fine, FineSlot, Slot, nothing, entry, openedEntry, loadedEntry, with, entryLength}
 use Rattle.ledger.specs.Ledger.{isEntry, slotEdition, slotLength, slotRecord, slotDigest, slotWith, ledgerTests, kept, written}
 use Rattle.ledger.specs.Ledger.{saying}
+use Rattle.ledger.specs.Records.{loads}
 use Rattle.calls.specs.Calls.{Passed}
-use Rattle.ledger.proofs.Entries.{state-shaped, added-entry, digest-entry, with-fine, opened-state, opened-fine, loaded-state}
-use Rattle.ledger.proofs.Entries.{loaded-fine}
+use Rattle.ledger.proofs.Entries.{stateOf, state-shaped, record-entry, added-entry, digest-entry, with-fine, opened-state, opened-fine}
+use Rattle.ledger.proofs.Entries.{loaded-state, loaded-fine}
+use Rattle.ledger.proofs.OwnRecord.{loads-agree}
 use Rattle.ledger.proofs.Follows.{Follows, at, shown, gated, passed-gate, put-follows, laid-follows, half-slot, state-count}
 use Rattle.ledger.proofs.Follows.{not-not, slotBay, state-edition}
 
@@ -149,9 +151,9 @@ module _ {L : ℕ} {t : List ℕ} {l : List Slot} (f : Follows L t l) where
                 (put-follows f i (r .0) (entry (with (held .en) piece)) (with-fine (held .en) (held .fine) piece all room));
           }
 
-  closing-step : (i x b : ℕ) (out : List ℕ) → Step L t l (closing i x b out)
+  closing-step : (i x b : ℕ) (out : List ℕ) → x < 256 → Step L t l (closing i x b out)
   unfolding tests ledgerTests leaves tells written saying kept first
-  closing-step i x b out = record { answer = gated f i us vs same; done = λ z. made (passed-gate f i us z) }
+  closing-step i x b out small = record { answer = gated f i us vs same; done = λ z. made (passed-gate f i us z) }
     where
       us : List Test
       us =
@@ -174,7 +176,7 @@ module _ {L : ℕ} {t : List ℕ} {l : List Slot} (f : Follows L t l) where
             output =
                 ap (λ (d : List ℕ). atFront d out)
                 (ap (λ (h : HalfRead). Steps.closedDigest h x b) (held .half)
-                ∙ sym (digest-entry (held .en) (held .fine) x b few)
+                ∙ sym (digest-entry (held .en) (held .fine) x b small few)
                 ∙ sym (ap (λ (s : Slot). slotDigest s x b) (held .isSlot)));
             says = refl;
             follows = put-follows f i (r .0) nothing tt;
@@ -196,6 +198,7 @@ module _ {L : ℕ} {t : List ℕ} {l : List Slot} (f : Follows L t l) where
           ap (λ (n : ℕ). cond (ltb (length out) n) 9 0)
           (ap recordLength (held .half)
           ∙ sym (length-recordOf (stateOf (held .en)) (state-shaped (held .en) (held .fine)))
+          ∙ sym (ap length (record-entry (held .en) (held .fine)))
           ∙ sym (ap (λ (s : Slot). length (slotRecord s)) (held .isSlot)))
 
       vs : List Test
@@ -212,7 +215,7 @@ module _ {L : ℕ} {t : List ℕ} {l : List Slot} (f : Follows L t l) where
           record {
             output =
                 ap (λ (d : List ℕ). atFront d out)
-                (ap recordOf (held .half) ∙ sym (ap slotRecord (held .isSlot)));
+                (ap recordOf (held .half) ∙ sym (record-entry (held .en) (held .fine)) ∙ sym (ap slotRecord (held .isSlot)));
             says = refl;
             follows = f;
           }
@@ -221,7 +224,7 @@ module _ {L : ℕ} {t : List ℕ} {l : List Slot} (f : Follows L t l) where
   unfolding tests ledgerTests leaves tells written saying kept first
   loading-step i bytes all =
       record {
-        answer = gated f i us (slotTests 10 (isRecord bytes) i) (fill-same 10 (isRecord bytes) i);
+        answer = gated f i us (slotTests 10 (loads bytes) i) (λ h. rw (loads-agree bytes all) (fill-same 10 (isRecord bytes) i h));
         done = λ z. made (passed-gate f i us z);
       }
     where
@@ -275,7 +278,7 @@ module _ {L : ℕ} {t : List ℕ} {l : List Slot} (f : Follows L t l) where
   step (layOut n) g = lay-out-step n
   step (opening i e) g = opening-step i e
   step (adding i piece) g = adding-step i piece g
-  step (closing i x b out) g = closing-step i x b out
+  step (closing i x b out) g = closing-step i x b out g
   step (saving i out) g = saving-step i out
   step (loading i bytes) g = loading-step i bytes g
   step (asking i) g = asking-step i

@@ -14,11 +14,13 @@ use Rattle.slices.specs.Below.{Below, Bytes}
 use Rattle.bigendian.specs.BigEndian.{be}
 use Rattle.slices.proofs.Below.{below-take, below-drop, below-append}
 use Rattle.fips.specs.Words.{Width, word, blockBytes}
-use Rattle.fips.specs.Padding.{zeros}
+use Rattle.fips.specs.Padding.{zeros, parse}
 use Rattle.fips.specs.Constants.{chain}
 use Rattle.fips.specs.Editions.{known, width, start}
 use Rattle.fips.specs.code.ByteForm.{closingByte, ending, parseBytes}
 use Rattle.fips.proofs.Sizes.{known-small}
+use Rattle.fips.proofs.Editions.{width-some}
+use Rattle.fips.proofs.ByteForm.{behind-bytes, parse-bytes, ending-bytes}
 use Rattle.sha2.proofs.Limits.{length-fits, same-sum, no-length}
 use Rattle.slices.specs.Blocks.{rest}
 use Rattle.slices.proofs.Blocks.{length-rest, rest-append, length-whole}
@@ -35,13 +37,27 @@ use Rattle.halfread.specs.declared.HalfRead.{HalfRead}
 use Rattle.halfread.specs.State.{blockOf, tailLength, pending, padded, Shaped, tailRoom}
 use Rattle.halfread.specs.Steps.{opened, added}
 use Rattle.halfread.specs.Steps as Steps
-use Rattle.records.specs.Record.{loaded, isRecord}
+use Rattle.records.specs.Record.{recordOf, readIn, loaded, isRecord}
 use Rattle.halfread.proofs.Fields.{same-state}
 use Rattle.records.proofs.Records.{loaded-sound, loaded-shaped}
 use Rattle.halfread.proofs.Rules.{tail-lt}
 use Rattle.halfread.proofs.Soundness.{Sound, sound-facts}
 use Rattle.halfread.proofs.Tails.{take-padded, padded-bytes, length-pending}
-use Rattle.ledger.specs.Ledger.{Entry, Fine, openedEntry, loadedEntry, with, entryLength, stateOf, entryDigest}
+use Rattle.ledger.specs.Records.{recordBytes, readEdition, readLength, readWords}
+use Rattle.ledger.specs.Ledger.{Entry, Fine, openedEntry, loadedEntry, with, entryLength, entryWords, entryRecord, closedBits}
+use Rattle.ledger.specs.Ledger.{entryDigest}
+use Rattle.ledger.proofs.OwnRecord.{record-agrees, tail-long, pending-read}
+
+-- the half-read message that stands for an entry: every whole block is absorbed, and what is left over waits
+unfoldable pub stateOf : Entry → HalfRead
+stateOf en =
+    let p : Width = width (en .edition) in
+    record {
+      edition = en .edition;
+      count = entryLength en;
+      words = chain p (en .startWords) (parseBytes p (en .since));
+      tail = padded (rest (blockBytes p) (en .since));
+    }
 
 -- ---- a list cut at its last whole block of n
 
@@ -127,6 +143,14 @@ module _ (en : Entry) (fine : Fine en) where
         bytes = padded-bytes (rest n s) (below-drop (length s / n * n) s (fine .bytes));
       }
 
+  -- and its record is the state's
+  pub record-entry : entryRecord en ≡ recordOf (stateOf en)
+  unfolding entryRecord entryWords stateOf
+  record-entry =
+      ap₂ (recordBytes (en .edition) (entryLength en))
+      (ap (chain p (en .startWords)) (parse-bytes p s (fine .bytes))) (sym pending-state)
+      ∙ record-agrees (stateOf en) (length-pending (stateOf en) (state-shaped .wide))
+
   -- the bytes that wait, and those of the entry with a piece more
   all-bytes : (piece : List ℕ) → s ++ piece ≡ front n s ++ (rest n s ++ piece)
   all-bytes piece = ap (λ (l : List ℕ). l ++ piece) (joined n s) ∙ append-assoc (front n s) (rest n s) piece
@@ -179,11 +203,22 @@ module _ (en : Entry) (fine : Fine en) where
       (sym (append-assoc (rest n s) (closingByte x b ∷ replicate (zeros (p .bytes) (length (rest n s))) 0)
       (be (2 * p .bytes) (8 * entryLength en + b)))))
 
+  -- the standard's padding of bits, in bytes
+  digest-in-bytes : (x b : ℕ) → x < 256 → b ≤ 7 →
+      entryDigest en x b ≡ digestFrom (en .edition) (chain p (en .startWords) (parseBytes p (s ++ ending p (entryLength en) x b)))
+  unfolding entryDigest closedBits digestFrom
+  digest-in-bytes x b small few =
+      let last = ending p (entryLength en) x b in
+      ap (λ (blocks : List (List ℕ)). digestFrom (en .edition) (chain p (en .startWords) blocks))
+      (ap (parse p) (behind-bytes p (width-some (en .edition)) (en .before) s x b (omega arith))
+      ∙ parse-bytes p (s ++ last) (below-append s last (fine .bytes) (ending-bytes p (entryLength en) x b small (omega arith))))
+
   -- the entry's digest is the state's
-  pub digest-entry : (x b : ℕ) → b ≤ 7 → entryDigest en x b ≡ Steps.closedDigest (stateOf en) x b
-  unfolding entryDigest Steps.closedDigest stateOf
-  digest-entry x b few =
-      ap (digestFrom (en .edition))
+  pub digest-entry : (x b : ℕ) → x < 256 → b ≤ 7 → entryDigest en x b ≡ Steps.closedDigest (stateOf en) x b
+  unfolding Steps.closedDigest stateOf
+  digest-entry x b small few =
+      digest-in-bytes x b small few
+      ∙ ap (digestFrom (en .edition))
       (ap (λ (l : List ℕ). chain p (en .startWords) (parseBytes p l)) (last-entry x b)
       ∙ behind-front (lastBytes p (entryLength en) (rest n s) x b)
       ∙ ap₂ (λ (t : List ℕ) (k : ℕ). absorbed (en .edition) (stateOf en .words) (lastBytes p (entryLength en) t x k))
@@ -270,10 +305,21 @@ module _ (bytes : List ℕ) (all : Bytes bytes) (isOne : isRecord bytes ≡ true
   facts-of : Sound (loaded bytes)
   facts-of = sound-facts (loaded bytes) (loaded-sound bytes isOne) shape
 
+  -- the entry that the ledger loads is the one of the state
+  entry-loaded : loadedEntry bytes ≡ entryOf (loaded bytes) shape facts-of
+  unfolding loadedEntry readIn
+  entry-loaded =
+      let long = tail-long bytes all isOne in
+      λ i.
+      record {
+        edition = readEdition bytes;
+        startWords = readWords bytes;
+        before = readLength bytes - long i;
+        since = sym (pending-read bytes all long) i;
+      }
+
   pub loaded-state : stateOf (loadedEntry bytes) ≡ loaded bytes
-  unfolding loadedEntry
-  loaded-state = entry-state (loaded bytes) shape facts-of
+  loaded-state = ap stateOf entry-loaded ∙ entry-state (loaded bytes) shape facts-of
 
   pub loaded-fine : Fine (loadedEntry bytes)
-  unfolding loadedEntry
-  loaded-fine = entry-fine (loaded bytes) shape facts-of
+  loaded-fine = subst Fine (sym entry-loaded) (entry-fine (loaded bytes) shape facts-of)

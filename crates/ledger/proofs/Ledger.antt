@@ -1,27 +1,28 @@
 -- `ledger`: demand 3 of SPEC, "How much each call says". A table laid out over any words gives, over every sequence of calls, what the
 -- plain ledger gives. Corollaries: `undamaged`, no answer is 1 or 6; `opened-digest`, an opened entry gives the standard's digest.
-use Prim.Native.Nat.{ℕ, zero, suc, _≤_, _<_}
+use Prim.Native.Nat.{ℕ, zero, suc, _*_, _<_}
 use mathlib.Core.Bool.{Bool, true, false, not, cond, _&&_}
 use mathlib.Core.List.{List, [], _∷_, _++_}
 use mathlib.Core.Path.{_≡_, refl, sym, ap, ap₂, subst, _∙_}
 use native.Mathlib.Nat.{zero-add}
 use native.Mathlib.Omega.{arith}
 use lib.Dec.{T, eqb, T-not, eqb-refl}
-use lib.ListN.{length, replicate}
+use lib.ListN.{length, take, replicate}
 use Rattle.answers.specs.Judged.{Test, first, after, Lent, lent}
-use Rattle.slices.specs.Below.{Bytes}
-use Rattle.fips.specs.Constants.{chain}
-use Rattle.fips.specs.Editions.{width, start, digest}
+use Rattle.bigendian.specs.Words.{fromWords}
+use Rattle.fips.specs.Bits.{bits}
+use Rattle.fips.specs.Words.{word}
+use Rattle.fips.specs.Padding.{zeros, pad, parse}
+use Rattle.fips.specs.Constants.{chain, hashFrom}
+use Rattle.fips.specs.Editions.{width, digestBytes, start, digest}
 use Rattle.fips.specs.Message.{message}
-use Rattle.fips.specs.code.ByteForm.{ending, parseBytes, hashBytes, digestOfBytes}
-use Rattle.fips.proofs.ByteForm.{digest-bytes}
-use Rattle.sha2.specs.code.Hashing.{digestFrom}
 use Rattle.bays.specs.Table.{roomFor}
+use Rattle.bays.proofs.Frames.{below-bayAt}
 use Rattle.calls.specs.Calls.{Call, layOut, opening, adding, closing, saving, loading, asking, dropping, outputOf, tests, leaves, Seen}
 use Rattle.calls.specs.Calls.{run, nothingTold, Passed}
-use Rattle.ledger.specs.Ledger.{Slot, nothing, openedEntry, with, entryDigest, ledgerTests, keep}
-use Rattle.ledger.specs.Promise.{AllPassed, seenOf, saidOf, Promise, Undamaged}
-use Rattle.ledger.proofs.Follows.{Follows, laid-follows}
+use Rattle.ledger.specs.Ledger.{Slot, nothing, openedEntry, with, closedBits, entryDigest, ledgerTests, keep}
+use Rattle.ledger.specs.Promise.{AllPassed, seenOf, saidOf, Promise, SoundPromise, Undamaged}
+use Rattle.ledger.proofs.Follows.{Follows, sound-follows, laid-follows}
 use Rattle.ledger.proofs.CallByCall.{Step, step, fits}
 
 -- ---- one call
@@ -85,6 +86,11 @@ laid words n d =
     let r = fits (roomFor n (length words)) d in
     rw r (laid-follows n words r)
 
+-- from every table with a right header and sound bays
+pub ledger-sound : SoundPromise
+ledger-sound t calls sound words g = follows-all (sound-follows t sound (λ i h. below-bayAt t i words)) calls g
+
+-- and so after a layout
 pub ledger : Promise
 ledger words n calls g d = follows-all (laid words n d) calls g
 
@@ -125,7 +131,7 @@ no-damage L l (loading i bytes) = tt
 no-damage L l (asking i) = tt
 no-damage L l (dropping i) = tt
 
-said-undamaged : (L : ℕ) (l : List Slot) (calls : List Call) → Undamaged (saidOf L l calls)
+pub said-undamaged : (L : ℕ) (l : List Slot) (calls : List Call) → Undamaged (saidOf L l calls)
 unfolding saidOf keep
 said-undamaged L l [] = tt
 said-undamaged L l (c ∷ cs) =
@@ -139,10 +145,11 @@ pub undamaged : (words : List ℕ) (n : ℕ) (calls : List Call) → AllPassed c
 undamaged words n calls g d = rw (ledger words n calls g d) (said-undamaged (length words) (replicate n nothing) calls)
 
 -- open an entry, give it a message, close with b bits: that is the standard's digest
-pub opened-digest : (e : ℕ) (m : List ℕ) (x b : ℕ) → Bytes m → x < 256 → b ≤ 7 →
-    entryDigest (with (openedEntry e) m) x b ≡ digest e (message m x b)
-unfolding entryDigest digestFrom digestOfBytes hashBytes
-opened-digest e m x b all small few =
+pub opened-digest : (e : ℕ) (m : List ℕ) (x b : ℕ) → entryDigest (with (openedEntry e) m) x b ≡ digest e (message m x b)
+unfolding entryDigest closedBits digest hashFrom pad
+opened-digest e m x b =
     let p = width e in
-    ap (λ (k : ℕ). digestFrom e (chain p (start e) (parseBytes p (m ++ ending p k x b)))) (zero-add (length m))
-    ∙ sym (digest-bytes e m x b all small (omega arith))
+    let n : ℕ = length (message m x b) in
+    ap (λ (l : ℕ). take (digestBytes e) (fromWords (p .bytes) (chain p (start e) (parse p
+    (message m x b ++ (true ∷ replicate (zeros (word p) l) false) ++ bits (2 * word p) l)))))
+    (zero-add n)

@@ -1,28 +1,27 @@
 -- The plain ledger: SPEC, "The plain ledger". Of a message in a bay it has every byte since the start words, and hashes them all
 -- anew each time. No word of a table is known to it, and none of its answers is 1 or 6.
-use Prim.Native.Nat.{ℕ, _+_, _-_, _*_, _^_}
+use Prim.Native.Nat.{ℕ, _+_, _-_, _*_, _/_, _^_}
 use mathlib.Core.Bool.{Bool, true, false, not}
 use mathlib.Core.List.{List, [], _∷_, _++_}
 use mathlib.Core.Path.{_≡_}
 use lib.Dec.{leb, ltb}
-use lib.ListN.{length, getD, set, replicate}
+use lib.ListN.{length, take, drop, getD, set, replicate}
 use Rattle.answers.specs.Judged.{Test, _when_, first, after}
+use Rattle.slices.specs.AtFront.{atFront}
 use Rattle.slices.specs.Below.{Below, Bytes}
+use Rattle.bigendian.specs.Words.{fromWords}
+use Rattle.fips.specs.Bits.{bits, bitsOf}
 use Rattle.fips.specs.Words.{Width, word, blockBytes}
+use Rattle.fips.specs.Padding.{zeros, parse}
 use Rattle.fips.specs.Constants.{chain}
 use Rattle.fips.specs.Editions.{known, width, digestBytes, start}
-use Rattle.fips.specs.code.ByteForm.{ending, parseBytes}
-use Rattle.slices.specs.AtFront.{atFront}
-use Rattle.slices.specs.Blocks.{rest}
+use Rattle.fips.specs.Message.{message}
 use Rattle.sha2.specs.Limit.{tooLong}
 use Rattle.sha2.specs.Closing.{closingFits}
-use Rattle.sha2.specs.code.Hashing.{digestFrom}
-use Rattle.halfread.specs.declared.HalfRead.{HalfRead}
-use Rattle.halfread.specs.State.{chainRoom, tailLength, pending, padded}
-use Rattle.records.specs.Record.{recordOf, loaded, isRecord}
 use Rattle.bays.specs.Table.{roomFor}
 use Rattle.calls.specs.Calls.{Call, layOut, opening, adding, closing, saving, loading, asking, dropping, outputOf, Told, told}
 use Rattle.calls.specs.Calls.{nothingTold, Seen}
+use Rattle.ledger.specs.Records.{recordBytes, readEdition, readLength, readWords, readTail, loads}
 
 -- a message: the words that its hashing goes on from, how many bytes led to them, and all that came after
 pub record Entry : Type 0 where
@@ -43,8 +42,12 @@ openedEntry e = record { edition = e; startWords = start e; before = 0; since = 
 -- a message out of a record: only its tail is known byte by byte
 unfoldable pub loadedEntry : List ℕ → Entry
 loadedEntry bytes =
-    let h : HalfRead = loaded bytes in
-    record { edition = h .edition; startWords = h .words; before = h .count - tailLength h; since = pending h }
+    record {
+      edition = readEdition bytes;
+      startWords = readWords bytes;
+      before = readLength bytes - length (readTail bytes);
+      since = readTail bytes;
+    }
 
 module _ (en : Entry) where
   abbrev pub with : List ℕ → Entry
@@ -54,28 +57,36 @@ module _ (en : Entry) where
   abbrev pub entryLength : ℕ
   entryLength = en .before + length (en .since)
 
-  -- the half-read message of its record: every whole block is absorbed, and what is left over waits
-  unfoldable pub stateOf : HalfRead
-  stateOf =
-      let p : Width = width (en .edition) in
-      record {
-        edition = en .edition;
-        count = entryLength;
-        words = chain p (en .startWords) (parseBytes p (en .since));
-        tail = padded (rest (blockBytes p) (en .since));
-      }
+  abbrev entryWidth : Width
+  entryWidth = width (en .edition)
 
-  -- its digest: all bytes since are hashed again, with a padding that tells the length of all
+  -- the chaining words after every whole block, FIPS 180-4 §5.2 and §6, and the bytes behind the last
+  unfoldable pub entryWords : List ℕ
+  entryWords = chain entryWidth (en .startWords) (parse entryWidth (bitsOf (en .since)))
+
+  abbrev pub entryTail : List ℕ
+  entryTail = drop (length (en .since) / blockBytes entryWidth * blockBytes entryWidth) (en .since)
+
+  unfoldable pub entryRecord : List ℕ
+  entryRecord = recordBytes (en .edition) entryLength entryWords entryTail
+
+  -- the bits that its digest hashes: all since and those of the closing byte, and the padding of FIPS 180-4 §5.1, a 1 bit, the zero bits
+  -- and the length of the whole message, what came before included
+  unfoldable pub closedBits : ℕ → ℕ → List Bool
+  closedBits x b =
+      let m : List Bool = message (en .since) x b in
+      let l : ℕ = 8 * en .before + length m in
+      m ++ (true ∷ replicate (zeros (word entryWidth) l) false) ++ bits (2 * word entryWidth) l
+
   unfoldable pub entryDigest : ℕ → ℕ → List ℕ
   entryDigest x b =
-      let p : Width = width (en .edition) in
-      digestFrom (en .edition) (chain p (en .startWords) (parseBytes p (en .since ++ ending p entryLength x b)))
+      take (digestBytes (en .edition)) (fromWords (entryWidth .bytes) (chain entryWidth (en .startWords) (parse entryWidth (closedBits x b))))
 
 -- what an entry can be: of an edition, eight words of its width, whole blocks before, bytes since, within the limit; and begun where its
 -- edition begins if nothing stands before
 pub record Fine (en : Entry) : Type 0 where
   pub isKnown : known (en .edition) ≡ true
-  pub eight : length (en .startWords) ≡ chainRoom
+  pub eight : length (en .startWords) ≡ 8
   pub below : Below (2 ^ word (width (en .edition))) (en .startWords)
   pub blocks : ℕ
   pub whole : en .before ≡ blocks * blockBytes (width (en .edition))
@@ -102,7 +113,7 @@ slotLength (entry en) = entryLength en
 
 abbrev pub slotRecord : Slot → List ℕ
 slotRecord nothing = []
-slotRecord (entry en) = recordOf (stateOf en)
+slotRecord (entry en) = entryRecord en
 
 abbrev pub slotDigest : Slot → ℕ → ℕ → List ℕ
 slotDigest nothing x b = []
@@ -130,7 +141,7 @@ module _ (L : ℕ) (l : List Slot) where
       beyond i ∷ 4 when not (isEntry (slot i)) ∷ 8 when not (closingFits x b) ∷ 9 when ltb (length out)
       (digestBytes (slotEdition (slot i))) ∷ []
   ledgerTests (saving i out) = beyond i ∷ 4 when not (isEntry (slot i)) ∷ 9 when ltb (length out) (length (slotRecord (slot i))) ∷ []
-  ledgerTests (loading i bytes) = beyond i ∷ 10 when not (isRecord bytes) ∷ 3 when isEntry (slot i) ∷ []
+  ledgerTests (loading i bytes) = beyond i ∷ 10 when not (loads bytes) ∷ 3 when isEntry (slot i) ∷ []
   ledgerTests (asking i) = beyond i ∷ []
   ledgerTests (dropping i) = beyond i ∷ 4 when not (isEntry (slot i)) ∷ []
 

@@ -1,12 +1,14 @@
 -- The ledger's promise, as one statement: after a layout that is done, over memory that held anything, every sequence of calls gives
 -- answer for answer and byte for byte what the plain ledger gives. The theorem is `ledger`. SPEC, "The plain ledger".
-use Prim.Native.Nat.{ℕ, _≤_}
+use Prim.Native.Nat.{ℕ, _^_, _≤_}
 use mathlib.Core.List.{List, [], _∷_}
 use mathlib.Core.Path.{_≡_}
 use lib.ListN.{length, replicate}
+use Rattle.slices.specs.Below.{Below}
 use Rattle.bays.specs.Table.{baysOf}
 use Rattle.calls.specs.Calls.{Call, layOut, opening, adding, closing, saving, loading, asking, dropping, Passed, Seen, run}
 use Rattle.ledger.specs.Ledger.{Slot, nothing, keep}
+use Rattle.ledger.specs.Sound.{SoundTable, ledgerOf}
 
 abbrev pub AllPassed : List Call → Type 0
 AllPassed [] = Unit {0}
@@ -26,10 +28,21 @@ unfoldable pub saidOf : ℕ → List Slot → List Call → List Seen
 saidOf L l [] = []
 saidOf L l (c ∷ cs) = keep L l c .seen ∷ saidOf L (keep L l c .slots) cs
 
+-- and the slots at its end
+unfoldable pub slotsAfter : ℕ → List Slot → List Call → List Slot
+slotsAfter L l [] = l
+slotsAfter L l (c ∷ cs) = slotsAfter L (keep L l c .slots) cs
+
 abbrev pub Promise : Type 0
 Promise =
     (words : List ℕ) (n : ℕ) (calls : List Call) → AllPassed calls → run words (layOut n) .seen .answer ≡ 0 →
     seenOf (run words (layOut n) .table) calls ≡ saidOf (length words) (replicate n nothing) calls
+
+-- the same of every table with a right header and sound bays, in words of 64 bits
+abbrev pub SoundPromise : Type 0
+SoundPromise =
+    (t : List ℕ) (calls : List Call) → SoundTable t → Below (2 ^ 64) t → AllPassed calls →
+    seenOf t calls ≡ saidOf (length t) (ledgerOf t) calls
 
 -- no answer is 1 or 6
 abbrev pub Undamaged : List Seen → Type 0

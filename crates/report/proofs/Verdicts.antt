@@ -84,7 +84,7 @@ module _ (L e : ℕ) (listed : List ℕ) where
       let out-digest : run t (closing 0 0 0 out) .seen .output ≡ atFront (digest e (message m 0 0)) out =
       ap (λ (s : Seen). s .output) seen
       ∙ ledger .1
-      ∙ ap (λ (d : List ℕ). atFront d out) (opened-digest e m 0 0 b (omega arith) (omega arith)) in
+      ∙ ap (λ (d : List ℕ). atFront d out) (opened-digest e m 0 0) in
       rw (
         done,
         out-digest,
