@@ -3,7 +3,7 @@
 use Prim.Native.Nat.{ℕ, zero, suc, _-_, _≤_, _<_}
 use mathlib.Core.Bool.{true, false}
 use mathlib.Core.List.{List, [], _++_, append-nil}
-use mathlib.Core.Path.{_≡_, refl, sym, ap, subst, _∙_}
+use mathlib.Core.Path.{_≡_, refl, sym, ap, subst, subst₂, _∙_}
 use native.Mathlib.Decide.{ℕ-discrete}
 use native.Mathlib.Nat.{le-refl, sub-zero, sub-self}
 use native.Mathlib.Omega.{arith}
@@ -16,15 +16,17 @@ use Rattle.halfread.specs.State.{sound}
 use Rattle.records.specs.Record.{recordOf, loaded, isRecord}
 use Rattle.records.proofs.Records.{length-recordOf, saved-loads, loaded-saves, recordOf-bytes}
 use Rattle.halfread.proofs.Soundness.{facts-sound}
-use Rattle.bays.specs.Table.{roomFor, laidOut, putBay}
+use Rattle.slices.proofs.Tests.{holds-at}
+use Rattle.bays.specs.Table.{baysOf, roomFor, headed, laidOut, putBay}
 use Rattle.bays.specs.Bay.{bayOf}
-use Rattle.calls.specs.Calls.{Call}
+use Rattle.calls.specs.Calls.{Call, layOut, run}
 use Rattle.ledger.specs.Ledger.{Entry, Fine, FineSlot, Slot, nothing, entry, openedEntry, loadedEntry, with, entryRecord}
 use Rattle.ledger.specs.Ledger.{slotRecord, Ready, SameRecords}
-use Rattle.ledger.specs.Promise.{AllPassed, saidOf}
+use Rattle.ledger.specs.Promise.{AllPassed, saidOf, slotsAfter}
 use Rattle.ledger.proofs.Entries.{stateOf, record-entry, state-facts, state-shaped, opened-fine, with-fine, loaded-state, loaded-fine}
 use Rattle.ledger.proofs.Follows.{Follows, slotBay, put-follows, laid-follows}
-use Rattle.ledger.proofs.Ledger.{follows-all}
+use Rattle.ledger.specs.Ends.{recordOfMessage}
+use Rattle.ledger.proofs.Ledger.{follows-all, follows-after, laid}
 
 -- ---- every ledger has a table
 
@@ -116,6 +118,15 @@ alike L l m a b s calls g =
     let (t, f) = table-for L l a in
     sym (follows-all f calls g) ∙ follows-all (follows-other f b s) calls g
 
+headed-fits : (t : List ℕ) → headed t ≡ true → roomFor (baysOf t) (length t) ≡ true
+unfolding headed
+headed-fits t e = holds-at _ e 0
+
+-- a ledger that a table follows has room in it, and its entries are fine
+pub follows-ready : {L : ℕ} {t : List ℕ} {l : List Slot} → Follows L t l → Ready L l
+follows-ready {L} {t} {l} f =
+    record { room = subst₂ (λ (n k : ℕ). roomFor n k ≡ true) (f .count) (f .long) (headed-fits t (f .header)); fine = f .fine }
+
 -- ---- a message's record loaded is as good as the message
 
 -- one slot anew
@@ -139,25 +150,62 @@ set-records l i r s h e = record { bays = length-set l i r ∙ sym (length-set l
         go (yes q) = rw (q, getD-set-same l i r nothing h, getD-set-same l i s nothing h) e
         go (no d) = rw (getD-set-other l i j r nothing d, getD-set-other l i j s nothing d)
 
--- the record of a message: open an entry, give it the bytes, and take its record
-abbrev pub recordOfMessage : ℕ → List ℕ → List ℕ
-recordOfMessage e m = entryRecord (with (openedEntry e) m)
+-- the entry loaded from the record of a message, and the message itself
+module _ (e : ℕ) (m : List ℕ) (k : known e ≡ true) (all : Bytes m) (short : tooLong e 0 (length m) ≡ false) where
+  abbrev given : Entry
+  given = with (openedEntry e) m
+
+  given-fine : Fine given
+  given-fine = with-fine (openedEntry e) (opened-fine e k) m all short
+
+  rec : List ℕ
+  rec = recordOfMessage e m
+
+  rec-bytes : Bytes rec
+  unfolding rec
+  rec-bytes = rw (record-entry given given-fine) (recordOf-bytes (stateOf given) (state-shaped given given-fine))
+
+  rec-loads : isRecord rec ≡ true
+  unfolding rec
+  rec-loads = state-loads given given-fine .1
+
+  loaded-record : slotRecord (entry (loadedEntry rec)) ≡ slotRecord (entry given)
+  unfolding rec
+  loaded-record =
+      record-entry (loadedEntry rec) (loaded-fine rec rec-bytes rec-loads)
+      ∙ ap recordOf (loaded-state rec rec-bytes rec-loads)
+      ∙ loaded-saves rec rec-loads
+
+  module _ {L : ℕ} {l : List Slot} (r : Ready L l) (i : ℕ) (h : i < length l) where
+    pub loaded-as : (calls : List Call) → AllPassed calls →
+        saidOf L (set l i (entry (loadedEntry (recordOfMessage e m)))) calls ≡ saidOf L (set l i (entry given)) calls
+    unfolding rec
+    loaded-as calls g =
+        alike L (set l i (entry (loadedEntry rec))) (set l i (entry given))
+        (set-ready L l i (entry (loadedEntry rec)) r (loaded-fine rec rec-bytes rec-loads) h)
+        (set-ready L l i (entry given) r given-fine h)
+        (set-records l i (entry (loadedEntry rec)) (entry given) h loaded-record)
+        calls g
+
+    loaded-other : {t : List ℕ} → Follows L t (set l i (entry (loadedEntry (recordOfMessage e m)))) → Follows L t (set l i (entry given))
+    unfolding rec
+    loaded-other f =
+        follows-other f (set-ready L l i (entry given) r given-fine h)
+        (set-records l i (entry (loadedEntry rec)) (entry given) h loaded-record)
 
 pub counts-as : (L : ℕ) (l : List Slot) (i e : ℕ) (m : List ℕ) → Ready L l → i < length l → known e ≡ true → Bytes m →
     tooLong e 0 (length m) ≡ false → (calls : List Call) → AllPassed calls →
     saidOf L (set l i (entry (loadedEntry (recordOfMessage e m)))) calls ≡ saidOf L (set l i (entry (with (openedEntry e) m))) calls
-counts-as L l i e m r h k all short calls g =
-    let en = with (openedEntry e) m in
-    let fine : Fine en = with-fine (openedEntry e) (opened-fine e k) m all short in
-    let shaped = state-shaped en fine in
-    let loads = state-loads en fine in
-    let bytes : Bytes (entryRecord en) = rw (record-entry en fine) (recordOf-bytes (stateOf en) shaped) in
-    let rec = recordOfMessage e m in
-    alike L (set l i (entry (loadedEntry rec))) (set l i (entry en))
-    (set-ready L l i (entry (loadedEntry rec)) r (loaded-fine rec bytes (loads .1)) h)
-    (set-ready L l i (entry en) r fine h)
-    (set-records l i (entry (loadedEntry rec)) (entry en) h
-    (record-entry (loadedEntry rec) (loaded-fine rec bytes (loads .1))
-    ∙ ap recordOf (loaded-state rec bytes (loads .1))
-    ∙ loaded-saves rec (loads .1)))
-    calls g
+counts-as L l i e m r h k all short calls g = loaded-as e m k all short r i h calls g
+
+-- a table that follows the one follows the other
+pub follows-loaded : {L : ℕ} {t u : List ℕ} {l : List Slot} → Follows L t l → (i : ℕ) → i < length l → (e : ℕ) (m : List ℕ) → known e ≡ true →
+    Bytes m → tooLong e 0 (length m) ≡ false → Follows L u (set l i (entry (loadedEntry (recordOfMessage e m)))) →
+    Follows L u (set l i (entry (with (openedEntry e) m)))
+follows-loaded f i h e m k all short g = loaded-other e m k all short (follows-ready f) i h g
+
+-- ---- every ledger that calls reach is one that `alike` speaks of
+
+pub reached-ready : (words : List ℕ) (n : ℕ) (calls : List Call) → AllPassed calls → run words (layOut n) .seen .answer ≡ 0 →
+    Ready (length words) (slotsAfter (length words) (replicate n nothing) calls)
+reached-ready words n calls g d = follows-ready (follows-after (laid words n d) calls g)

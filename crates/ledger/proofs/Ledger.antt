@@ -21,7 +21,7 @@ use Rattle.bays.proofs.Frames.{below-bayAt}
 use Rattle.calls.specs.Calls.{Call, layOut, opening, adding, closing, saving, loading, asking, dropping, outputOf, tests, leaves, Seen}
 use Rattle.calls.specs.Calls.{run, nothingTold, Passed}
 use Rattle.ledger.specs.Ledger.{Slot, nothing, openedEntry, with, closedBits, entryDigest, ledgerTests, keep}
-use Rattle.ledger.specs.Promise.{AllPassed, seenOf, saidOf, Promise, SoundPromise, Undamaged}
+use Rattle.ledger.specs.Promise.{AllPassed, seenOf, tableOf, saidOf, slotsAfter, Promise, SoundPromise, Undamaged}
 use Rattle.ledger.proofs.Follows.{Follows, sound-follows, laid-follows}
 use Rattle.ledger.proofs.CallByCall.{Step, step, fits}
 
@@ -78,6 +78,12 @@ unfolding seenOf saidOf
 follows-all f [] g = refl
 follows-all f (c ∷ cs) g =
     ap₂ (λ (s : Seen) (ss : List Seen). s ∷ ss) (same-seen f c (g .0)) (follows-all (still-follows f c (g .0)) cs (g .1))
+
+pub follows-after : {L : ℕ} {t : List ℕ} {l : List Slot} → Follows L t l → (calls : List Call) → AllPassed calls →
+    Follows L (tableOf t calls) (slotsAfter L l calls)
+unfolding tableOf slotsAfter
+follows-after f [] g = f
+follows-after f (c ∷ cs) g = follows-after (still-follows f c (g .0)) cs (g .1)
 
 pub laid : (words : List ℕ) (n : ℕ) → run words (layOut n) .seen .answer ≡ 0 →
     Follows (length words) (run words (layOut n) .table) (replicate n nothing)

@@ -7,3 +7,4 @@ pub mod Ledger
 pub mod Alike
 pub mod CallersWords
 pub mod Traces
+pub mod Ends

@@ -5,3 +5,4 @@ pub mod Sound
 pub mod Promise
 pub mod Traces
 pub mod Code
+pub mod Ends

@@ -1,0 +1,173 @@
+-- A message from its beginning to its digest, among any other calls: `opened-closed`, `loaded-closed`, and of the functions in src
+-- `code-opened-closed`, `code-loaded-closed`. In the ledger a bay keeps its entry, with what it is given, until a call that is done ends it.
+use Prim.Native.Nat.{ℕ, zero, suc, _<_}
+use mathlib.Core.Bool.{Bool, true, false, cond, false≢true}
+use mathlib.Core.List.{List, [], _∷_, _++_, append-assoc, append-nil}
+use mathlib.Core.Path.{_≡_, refl, sym, ap, subst, _∙_}
+use native.Mathlib.Omega.{arith}
+use lib.Dec.{leb, eqb}
+use lib.ListN.{length, getD, set, length-set}
+use lib.Seq.{getD-set-same, getD-set-other}
+use borrow.Author.Tests.{eq-eqb, eqb-true, leb-false}
+use Rattle.answers.specs.Judged.{first, after}
+use Rattle.answers.proofs.Tests.{passed}
+use Rattle.slices.specs.AtFront.{atFront}
+use Rattle.slices.specs.Below.{Bytes}
+use Rattle.fips.specs.Editions.{known, digest}
+use Rattle.fips.specs.Message.{message}
+use Rattle.sha2.specs.Limit.{tooLong}
+use Rattle.calls.specs.Calls.{Call, layOut, opening, adding, closing, saving, loading, asking, dropping, Seen}
+use Rattle.ledger.specs.Ledger.{Entry, Slot, nothing, entry, openedEntry, loadedEntry, with, isEntry, slotWith, slotDigest}
+use Rattle.ledger.specs.Ledger.{ledgerTests, kept, written, keep}
+use Rattle.ledger.specs.Promise.{saidOf, slotsAfter}
+use Rattle.ledger.specs.Sound.{ledgerOf}
+use Rattle.ledger.specs.Traces.{Doing, Trace}
+use Rattle.ledger.specs.Code.{Did}
+use Rattle.ledger.specs.Ends.{pieceFor, endsBay, givenTo, Stays, recordOfMessage, OpenedCloses, LoadedCloses}
+use Rattle.ledger.proofs.Follows.{Follows}
+use Rattle.ledger.proofs.Ledger.{opened-digest}
+use Rattle.ledger.proofs.Alike.{follows-loaded}
+use Rattle.ledger.proofs.Traces.{Faithful, did-seen, did-follows, did-sound, trace-seen, trace-follows, code-faithful}
+
+-- ---- one bay in the ledger
+
+-- bay i holds the entry, with p more
+record Still (i : ℕ) (en : Entry) (l : List Slot) (p : List ℕ) : Type 0 where
+  inside : i < length l
+  held : getD l i nothing ≡ entry (with en p)
+
+more : (en : Entry) (p q : List ℕ) → with (with en p) q ≡ with en (p ++ q)
+more en p q =
+    ap (λ (s : List ℕ). record { edition = en .edition; startWords = en .startWords; before = en .before; since = s })
+    (append-assoc (en .since) p q)
+
+none-more : (en : Entry) → with en [] ≡ en
+none-more en =
+    ap (λ (s : List ℕ). record { edition = en .edition; startWords = en .startWords; before = en .before; since = s })
+    (append-nil (en .since))
+
+module _ (L : ℕ) (l : List Slot) (i : ℕ) (h : i < length l) (en : Entry) (is : getD l i nothing ≡ entry en) where
+  same : Still i en l []
+  same = record { inside = h; held = is ∙ ap entry (sym (none-more en)) }
+
+  -- another bay put anew
+  other : (j : ℕ) (s : Slot) → (i ≡ j → ⊥) → Still i en (set l j s) []
+  other j s d =
+      record { inside = omega (arith, length-set l j s); held = getD-set-other l j i s nothing d ∙ same .held }
+
+  -- a bay that is free, or has another number, is another one
+  free : (j : ℕ) → isEntry (getD l j nothing) ≡ false → i ≡ j → ⊥
+  free j e q = false≢true (sym e ∙ ap (λ (k : ℕ). isEntry (getD l k nothing)) (sym q) ∙ ap isEntry is)
+
+  apart : (j : ℕ) → eqb j i ≡ false → i ≡ j → ⊥
+  apart j e q = false≢true (sym e ∙ eq-eqb j i (sym q))
+
+  given : (j : ℕ) (piece : List ℕ) (e : Bool) → eqb j i ≡ e → Still i en (set l j (slotWith (getD l j nothing) piece)) (cond e piece [])
+  given j piece true e =
+      rw (eqb-true j i e)
+      (record {
+        inside = omega (arith, length-set l i (slotWith (getD l i nothing) piece));
+        held = getD-set-same l i (slotWith (getD l i nothing) piece) nothing h ∙ ap (λ (s : Slot). slotWith s piece) is;
+      })
+  given j piece false e = other j (slotWith (getD l j nothing) piece) (apart j e)
+
+  -- a call that is done and does not end it
+  kept-still : (c : Call) → first (ledgerTests L l c) ≡ 0 → endsBay i c ≡ false → Still i en (kept L l c) (pieceFor i c)
+  unfolding ledgerTests kept
+  kept-still (layOut n) z e = absurd (false≢true (sym e))
+  kept-still (opening j k) z e = other j (entry (openedEntry k)) (free j (passed (ledgerTests L l (opening j k)) tt z 2))
+  kept-still (adding j piece) z e = given j piece (eqb j i) refl
+  kept-still (closing j x b out) z e = other j nothing (apart j e)
+  kept-still (saving j out) z e = same
+  kept-still (loading j bytes) z e = other j (entry (loadedEntry bytes)) (free j (passed (ledgerTests L l (loading j bytes)) tt z 2))
+  kept-still (asking j) z e = same
+  kept-still (dropping j) z e = other j nothing (apart j e)
+
+  -- any call
+  keep-still : (c : Call) → (keep L l c .seen .answer ≡ 0 → endsBay i c ≡ false) →
+      Still i en (keep L l c .slots) (after (keep L l c .seen .answer) [] (pieceFor i c))
+  unfolding keep
+  keep-still c stays = go (first (ledgerTests L l c)) (λ z. kept-still c z (stays z))
+    where
+      go : (n : ℕ) → (n ≡ 0 → Still i en (kept L l c) (pieceFor i c)) → Still i en (after n l (kept L l c)) (after n [] (pieceFor i c))
+      go zero d = d refl
+      go (suc n) d = same
+
+  -- what closing it writes
+  closing-writes : (x b : ℕ) (out : List ℕ) → keep L l (closing i x b out) .seen .answer ≡ 0 →
+      keep L l (closing i x b out) .seen .output ≡ atFront (slotDigest (entry en) x b) out
+  unfolding keep written
+  closing-writes x b out z = rw (z, is)
+
+-- a call that fills bay i and is done has put the entry there
+filled : (L : ℕ) (l : List Slot) (c : Call) (i : ℕ) (s : Slot) → first (ledgerTests L l c) ≡ 0 → leb (length l) i ≡ false →
+    kept L l c ≡ set l i s → (i < length l) × (keep L l c .slots ≡ set l i s)
+unfolding keep
+filled L l c i s z inside e = (leb-false (length l) i inside, rw z e)
+
+opening-puts : (L : ℕ) (l : List Slot) (i e : ℕ) → keep L l (opening i e) .seen .answer ≡ 0 →
+    (i < length l) × (keep L l (opening i e) .slots ≡ set l i (entry (openedEntry e)))
+unfolding keep ledgerTests kept
+opening-puts L l i e z = filled L l (opening i e) i (entry (openedEntry e)) z (passed (ledgerTests L l (opening i e)) tt z 0) refl
+
+loading-puts : (L : ℕ) (l : List Slot) (i : ℕ) (bytes : List ℕ) → keep L l (loading i bytes) .seen .answer ≡ 0 →
+    (i < length l) × (keep L l (loading i bytes) .slots ≡ set l i (entry (loadedEntry bytes)))
+unfolding keep ledgerTests kept
+loading-puts L l i bytes z = filled L l (loading i bytes) i (entry (loadedEntry bytes)) z (passed (ledgerTests L l (loading i bytes)) tt z 0) refl
+
+-- any calls
+all-still : (L : ℕ) (l : List Slot) (i : ℕ) → i < length l → (en : Entry) → getD l i nothing ≡ entry en → (cs : List Call) →
+    Stays i cs (saidOf L l cs) → Still i en (slotsAfter L l cs) (givenTo i cs (saidOf L l cs))
+unfolding saidOf slotsAfter givenTo
+all-still L l i h en is [] st = same L l i h en is
+all-still L l i h en is (c ∷ cs) st =
+    let k = keep-still L l i h en is c (st .0) in
+    let p : List ℕ = after (keep L l c .seen .answer) [] (pieceFor i c) in
+    let rest = all-still L (keep L l c .slots) i (k .inside) (with en p) (k .held) cs (st .1) in
+    record { inside = rest .inside; held = rest .held ∙ ap entry (more en p (givenTo i cs (saidOf L (keep L l c .slots) cs))) }
+
+-- ---- calls that were made
+
+module _ (D : Doing) (faithful : Faithful D) where
+  -- from a ledger in which bay i holds m bytes of a message that was opened
+  closes : {L : ℕ} {t : List ℕ} {l : List Slot} → Follows L t l → (i : ℕ) → i < length l → (e : ℕ) (m : List ℕ) →
+      getD l i nothing ≡ entry (with (openedEntry e) m) →
+      (calls : List Call) (shown : List Seen) (u : List ℕ) → Trace D t calls shown u → Stays i calls shown →
+      (x b : ℕ) (out : List ℕ) (last : Seen) (v : List ℕ) → D u (closing i x b out) last v → last .answer ≡ 0 →
+      last .output ≡ atFront (digest e (message (m ++ givenTo i calls shown) x b)) out
+  closes {L} {t} {l} f i h e m is calls shown u made stays x b out last v did z =
+      let said = trace-seen D faithful f made in
+      let g = trace-follows D faithful f made in
+      let seen = did-seen D faithful g did in
+      let all : List ℕ = givenTo i calls (saidOf L l calls) in
+      let still = all-still L l i h (with (openedEntry e) m) is calls (subst (Stays i calls) said stays) in
+      ap (λ (s : Seen). s .output) seen
+      ∙ closing-writes L (slotsAfter L l calls) i (still .inside) (with (openedEntry e) (m ++ all)) (still .held) x b out
+      (ap (λ (s : Seen). s .answer) (sym seen) ∙ z)
+      ∙ ap (λ (d : List ℕ). atFront d out) (opened-digest e (m ++ all) x b)
+      ∙ ap (λ (ss : List Seen). atFront (digest e (message (m ++ givenTo i calls ss) x b)) out) (sym said)
+
+  pub opened-closed : OpenedCloses D
+  opened-closed i e t t' s sound did z =
+      let f = did-sound D faithful sound did in
+      let n = ap (λ (y : Seen). y .answer) (sym (did-seen D faithful f did)) ∙ z in
+      let put = opening-puts (length t) (ledgerOf t) i e n in
+      let g = subst (Follows (length t) t') (put .1) (did-follows D faithful f did) in
+      closes g i (omega (arith, put .0, length-set (ledgerOf t) i (entry (openedEntry e)))) e []
+      (getD-set-same (ledgerOf t) i (entry (openedEntry e)) nothing (put .0))
+
+  pub loaded-closed : LoadedCloses D
+  loaded-closed i e m k all short t t' s sound did z =
+      let f = did-sound D faithful sound did in
+      let n = ap (λ (y : Seen). y .answer) (sym (did-seen D faithful f did)) ∙ z in
+      let put = loading-puts (length t) (ledgerOf t) i (recordOfMessage e m) n in
+      let g = subst (Follows (length t) t') (put .1) (did-follows D faithful f did) in
+      closes (follows-loaded f i (put .0) e m k all short g) i
+      (omega (arith, put .0, length-set (ledgerOf t) i (entry (with (openedEntry e) m)))) e m
+      (getD-set-same (ledgerOf t) i (entry (with (openedEntry e) m)) nothing (put .0))
+
+pub code-opened-closed : OpenedCloses Did
+code-opened-closed = opened-closed Did code-faithful
+
+pub code-loaded-closed : LoadedCloses Did
+code-loaded-closed = loaded-closed Did code-faithful
