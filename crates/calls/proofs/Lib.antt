@@ -3,3 +3,4 @@ pub mod Judging
 pub mod Settled
 pub mod Runs
 pub mod Records
+pub mod NoBytes

@@ -8,3 +8,4 @@ pub mod Alike
 pub mod CallersWords
 pub mod Traces
 pub mod Ends
+pub mod Traced
