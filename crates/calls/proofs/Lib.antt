@@ -4,3 +4,4 @@ pub mod Settled
 pub mod Runs
 pub mod Records
 pub mod NoBytes
+pub mod Words

@@ -3,7 +3,7 @@
 use Prim.Native.Nat.{ℕ, zero, suc, _^_}
 use mathlib.Core.Bool.{Bool, true, false, cond}
 use mathlib.Core.List.{List, [], _∷_}
-use mathlib.Core.Path.{_≡_, refl, sym}
+use mathlib.Core.Path.{_≡_, refl, sym, subst}
 use lib.ListN.{getD}
 use denote.Ref.{RefT}
 use Rattle.answers.specs.declared.Answer.{Answer}
@@ -12,10 +12,12 @@ use Rattle.answers.specs.Numbers.{numberOf}
 use Rattle.answers.proofs.Outcome.{answers}
 use Rattle.slices.specs.Below.{Below}
 use Rattle.calls.specs.Calls.{Call, layOut, opening, adding, closing, saving, loading, asking, dropping, outputOf, Lends, tests, leaves}
-use Rattle.calls.specs.Calls.{Told, nothingTold, tells, Outcome, Asks, Seen}
+use Rattle.calls.specs.Calls.{Told, nothingTold, tells, Outcome, Asks, Seen, Ran}
+use Rattle.calls.proofs.Words.{run-words}
 use Rattle.ledger.specs.Promise.{AllPassed}
 use Rattle.ledger.specs.Traces.{Doing, Trace, none, then}
 use Rattle.ledger.specs.Code.{Did, lay-out-did, open-did, add-did, close-did, save-did, load-did, ask-did, drop-did}
+use Rattle.ledger.proofs.Traces.{Faithful, code-faithful}
 
 -- ---- every number that a call can answer has its answer
 
@@ -94,7 +96,7 @@ asked t i = record { answer = number-named t (asking i); leaves = refl }
 abbrev pub slice : List ℕ → RefT (List ℕ)
 slice xs = record { ptr = (0, 0); name = 0; now = xs }
 
--- what a call did, and that it leaves words
+-- a call that was made
 pub record Some (D : Doing) (t : List ℕ) (c : Call) : Type 0 where
   pub seen : Seen
   pub table : List ℕ
@@ -128,3 +130,24 @@ code-some t (asking i) l =
 code-some t (dropping i) l =
     let c = dropping i in
     record { seen = _; table = _; did = drop-did (record { κs = ([], tt); args = (slice t, (i, tt)); result = answered t c; last = (left t c .table, (tt, tt)); learnt = (alone t c refl refl, l) }) }
+
+-- ---- traces
+
+pub record Traced (D : Doing) (t : List ℕ) (calls : List Call) : Type 0 where
+  pub shown : List Seen
+  pub table : List ℕ
+  pub trace : Trace D t calls shown table
+
+-- where there is a call of each kind, there is a trace; what a faithful call leaves are words again
+module _ (D : Doing) (faithful : Faithful D) (some : (t : List ℕ) (c : Call) → Lends t c → Some D t c) where
+  pub traced : (t : List ℕ) → Below (2 ^ 64) t → (calls : List Call) → AllPassed calls → Traced D t calls
+  traced t words [] g = record { shown = []; table = t; trace = none t }
+  traced t words (c ∷ cs) g =
+      let one = some t c (words, g .0) in
+      let next : Below (2 ^ 64) (one .table) =
+      subst (λ (x : Ran). Below (2 ^ 64) (x .table)) (faithful _ _ _ _ (one .did) .ran) (run-words t words c (g .0)) in
+      let rest = traced (one .table) next cs (g .1) in
+      record { shown = one .seen ∷ rest .shown; table = rest .table; trace = then (one .did) (rest .trace) }
+
+pub code-traced : (t : List ℕ) → Below (2 ^ 64) t → (calls : List Call) → AllPassed calls → Traced Did t calls
+code-traced = traced Did code-faithful code-some
