@@ -6,6 +6,10 @@ use mathlib.Core.List.{List, [], _∷_}
 use mathlib.Core.Path.{_≡_, refl, sym, subst}
 use lib.ListN.{getD}
 use denote.Ref.{RefT}
+use denote.Triple.Clauses.{Ended, Lasts, atExit}
+use denote.Triple.Entry.{Args, Res}
+use contract.Lifetimes.{Lfts}
+use Rattle.contracts.specs.Says.{Says, Made}
 use Rattle.answers.specs.declared.Answer.{Answer}
 use Rattle.answers.specs.Judged.{Test, Lent, lent, first, after}
 use Rattle.answers.specs.Numbers.{numberOf}
@@ -33,7 +37,8 @@ unfolding first Named
 first-named [] h = refl
 first-named (t ∷ ts) h = go (t .applies) (first-named ts (h .1))
   where
-    go : (b : Bool) → numberOf (answerAt (first ts)) ≡ first ts → numberOf (answerAt (cond b (t .number) (first ts))) ≡ cond b (t .number) (first ts)
+    go : (b : Bool) → numberOf (answerAt (first ts)) ≡ first ts →
+        numberOf (answerAt (cond b (t .number) (first ts))) ≡ cond b (t .number) (first ts)
     go true e = h .0
     go false e = e
 
@@ -102,34 +107,51 @@ pub record Some (D : Doing) (t : List ℕ) (c : Call) : Type 0 where
   pub table : List ℕ
   pub did : D t c seen table
 
+pub some : (D : Doing) {t u : List ℕ} {c : Call} {s : Seen} → D t c s u → Some D t c
+some D {u = u} {s = s} d = record { seen = s; table = u; did = d }
+
+abbrev pub call : {T : Ended} {L : Says T} (κs : Lfts (T .signature .lifetimes)) (args : Args (T .signature) κs) (result : Res (T .signature) κs)
+    (last : Lasts T κs args) → L κs args result (atExit T κs args last) → Made T L
+call κs args result last learnt = record { κs = κs; args = args; result = result; last = last; learnt = learnt }
+
 -- ---- the functions in src
 
 code-some : (t : List ℕ) (c : Call) → Lends t c → Some Did t c
 unfolding leaves
 code-some t (layOut n) l =
     let c = layOut n in
-    record { seen = _; table = _; did = lay-out-did (record { κs = ([], tt); args = (slice t, (n, tt)); result = answered t c; last = (left t c .table, (tt, tt)); learnt = (alone t c refl refl, l) }) }
+    some Did (lay-out-did (call ([], tt) (slice t, (n, tt)) (answered t c) (left t c .table, (tt, tt)) (alone t c refl refl, l)))
 code-some t (opening i e) l =
     let c = opening i e in
-    record { seen = _; table = _; did = open-did (record { κs = ([], tt); args = (slice t, (i, (e, tt))); result = answered t c; last = (left t c .table, (tt, (tt, tt))); learnt = (alone t c refl refl, l) }) }
+    some Did (open-did (call ([], tt) (slice t, (i, (e, tt))) (answered t c) (left t c .table, (tt, (tt, tt))) (alone t c refl refl, l)))
 code-some t (adding i piece) l =
     let c = adding i piece in
-    record { seen = _; table = _; did = add-did (record { κs = ([], ([], tt)); args = (slice t, (i, (slice piece, tt))); result = answered t c; last = (left t c .table, (tt, (tt, tt))); learnt = (alone t c refl refl, l) }) }
+    some Did (add-did
+    (call ([], ([], tt)) (slice t, (i, (slice piece, tt))) (answered t c)
+    (left t c .table, (tt, (tt, tt))) (alone t c refl refl, l)))
 code-some t (closing i x b out) l =
     let c = closing i x b out in
-    record { seen = _; table = _; did = close-did (record { κs = ([], ([], tt)); args = (slice t, (i, (x, (b, (slice out, tt))))); result = answered t c; last = (left t c .table, (tt, (tt, (tt, (left t c .output, tt))))); learnt = (both t c, l) }) }
+    some Did (close-did
+    (call ([], ([], tt)) (slice t, (i, (x, (b, (slice out, tt))))) (answered t c)
+    (left t c .table, (tt, (tt, (tt, (left t c .output, tt))))) (both t c, l)))
 code-some t (saving i out) l =
     let c = saving i out in
-    record { seen = _; table = _; did = save-did (record { κs = ([], ([], tt)); args = (slice t, (i, (slice out, tt))); result = answered t c; last = (tt, (tt, (left t c .output, tt))); learnt = (kept t c refl, l) }) }
+    some Did (save-did
+    (call ([], ([], tt)) (slice t, (i, (slice out, tt))) (answered t c)
+    (tt, (tt, (left t c .output, tt))) (kept t c refl, l)))
 code-some t (loading i bytes) l =
     let c = loading i bytes in
-    record { seen = _; table = _; did = load-did (record { κs = ([], ([], tt)); args = (slice t, (i, (slice bytes, tt))); result = answered t c; last = (left t c .table, (tt, (tt, tt))); learnt = (alone t c refl refl, l) }) }
+    some Did (load-did
+    (call ([], ([], tt)) (slice t, (i, (slice bytes, tt))) (answered t c)
+    (left t c .table, (tt, (tt, tt))) (alone t c refl refl, l)))
 code-some t (asking i) l =
     let c = asking i in
-    record { seen = _; table = _; did = ask-did (record { κs = ([], tt); args = (slice t, (i, tt)); result = record { answer = answered t c; edition = says t c .edition; count = says t c .count }; last = (tt, (tt, tt)); learnt = (asked t i, l) }) }
+    some Did (ask-did
+    (call ([], tt) (slice t, (i, tt)) (record { answer = answered t c; edition = says t c .edition; count = says t c .count })
+    (tt, (tt, tt)) (asked t i, l)))
 code-some t (dropping i) l =
     let c = dropping i in
-    record { seen = _; table = _; did = drop-did (record { κs = ([], tt); args = (slice t, (i, tt)); result = answered t c; last = (left t c .table, (tt, tt)); learnt = (alone t c refl refl, l) }) }
+    some Did (drop-did (call ([], tt) (slice t, (i, tt)) (answered t c) (left t c .table, (tt, tt)) (alone t c refl refl, l)))
 
 -- ---- traces
 
@@ -139,11 +161,11 @@ pub record Traced (D : Doing) (t : List ℕ) (calls : List Call) : Type 0 where
   pub trace : Trace D t calls shown table
 
 -- where there is a call of each kind, there is a trace; what a faithful call leaves are words again
-module _ (D : Doing) (faithful : Faithful D) (some : (t : List ℕ) (c : Call) → Lends t c → Some D t c) where
+module _ (D : Doing) (faithful : Faithful D) (any : (t : List ℕ) (c : Call) → Lends t c → Some D t c) where
   pub traced : (t : List ℕ) → Below (2 ^ 64) t → (calls : List Call) → AllPassed calls → Traced D t calls
   traced t words [] g = record { shown = []; table = t; trace = none t }
   traced t words (c ∷ cs) g =
-      let one = some t c (words, g .0) in
+      let one = any t c (words, g .0) in
       let next : Below (2 ^ 64) (one .table) =
       subst (λ (x : Ran). Below (2 ^ 64) (x .table)) (faithful _ _ _ _ (one .did) .ran) (run-words t words c (g .0)) in
       let rest = traced (one .table) next cs (g .1) in

@@ -1,0 +1,2 @@
+-- The promise of the ledger, over the C names.
+pub mod Ledger

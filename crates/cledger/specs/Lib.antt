@@ -1,0 +1,2 @@
+-- The C names that were called.
+pub mod Code
