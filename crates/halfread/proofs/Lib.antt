@@ -4,6 +4,7 @@ pub mod Fields
 pub mod Rules
 pub mod Tails
 pub mod Soundness
+pub mod ByRules
 pub mod Adding
 pub mod Filling
 pub mod Opening

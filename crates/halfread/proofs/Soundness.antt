@@ -68,8 +68,16 @@ facts-of h e long =
 pub sound-facts : (h : HalfRead) → sound h ≡ true → Shaped h → Sound h
 sound-facts h e s = facts-of h e (s .wide)
 
+-- the rules but the last, and that one as a fact
+pub kept-sound : (h : HalfRead) → Kept h → (h .count < blockOf h → h .words ≡ start (h .edition)) → sound h ≡ true
+kept-sound h kept begun = go (decLe (blockOf h) (h .count))
+  where
+    go : Dec (blockOf h ≤ h .count) → sound h ≡ true
+    go (yes p) = sym (past-rule h kept p)
+    go (no p) = sym (begun-rule h kept (lt-of-not-le p) refl (sym (eq-same (h .words) (start (h .edition)) (begun (lt-of-not-le p)))))
+
 pub facts-sound : (h : HalfRead) → Shaped h → Sound h → sound h ≡ true
-facts-sound h s f = go (decLe (blockOf h) (h .count))
+facts-sound h s f = kept-sound h kept (f .begun)
   where
     zero : allZero (drop (tailLength h) (h .tail)) ≡ true
     zero =
@@ -85,8 +93,3 @@ facts-sound h s f = go (decLe (blockOf h) (h .count))
           below = below-allBelow (2 ^ word (width (h .edition))) (h .words) (f .below);
           zero = zero;
         }
-
-    go : Dec (blockOf h ≤ h .count) → sound h ≡ true
-    go (yes p) = sym (past-rule h kept p)
-    go (no p) =
-        sym (begun-rule h kept (lt-of-not-le p) refl (sym (eq-same (h .words) (start (h .edition)) (f .begun (lt-of-not-le p)))))

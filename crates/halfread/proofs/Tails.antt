@@ -1,10 +1,10 @@
 -- A tail: bytes with zeros behind them. Laws of `padded` and `pending`, and of bytes written behind those that stand there.
-use Prim.Native.Nat.{ℕ, _+_, _-_, _≤_}
-use mathlib.Core.List.{List, _++_, append-assoc, append-nil}
-use mathlib.Core.Path.{_≡_, sym, ap, ap₂, _∙_}
+use Prim.Native.Nat.{ℕ, zero, suc, _+_, _-_, _≤_}
+use mathlib.Core.List.{List, [], _∷_, _++_, append-assoc, append-nil}
+use mathlib.Core.Path.{_≡_, refl, sym, ap, ap₂, _∙_}
 use native.Mathlib.Omega.{arith}
 use lib.Dec.{lit<}
-use lib.ListN.{length, take, drop, replicate, length-append, length-replicate, length-take, drop-of-length-le}
+use lib.ListN.{length, getD, take, drop, replicate, length-append, length-replicate, length-take, drop-of-length-le}
 use lib.Seq.{take-all, take-at, drop-at, take-append-add, take-append-le, take-take, length-take-le}
 use Rattle.slices.specs.Below.{Bytes}
 use Rattle.slices.proofs.Below.{below-append, below-take, below-replicate}
@@ -61,6 +61,20 @@ pub drop-padded : (bs : List ℕ) (n : ℕ) → n ≤ tailRoom → length bs ≡
 drop-padded bs n h e =
     ap (drop n) (padded-room bs (omega arith)) ∙ drop-at bs (replicate (tailRoom - length bs) 0) n e
     ∙ ap (λ (m : ℕ). replicate (tailRoom - m) 0) e
+
+-- past its bytes a tail has what a list has past its end: 0
+zeros-read : (n k : ℕ) → getD (replicate {A = ℕ} n 0) k 0 ≡ 0
+zeros-read zero k = refl
+zeros-read (suc n) zero = refl
+zeros-read (suc n) (suc k) = zeros-read n k
+
+getD-zeros : (bs : List ℕ) (n k : ℕ) → getD (bs ++ replicate n 0) k 0 ≡ getD bs k 0
+getD-zeros [] n k = zeros-read n k
+getD-zeros (b ∷ bs) n zero = refl
+getD-zeros (b ∷ bs) n (suc k) = getD-zeros bs n k
+
+pub getD-padded : (bs : List ℕ) → length bs ≤ tailRoom → (k : ℕ) → getD (padded bs) k 0 ≡ getD bs k 0
+getD-padded bs h k = ap (λ (l : List ℕ). getD l k 0) (padded-room bs h) ∙ getD-zeros bs (tailRoom - length bs) k
 
 pub padded-bytes : (bs : List ℕ) → Bytes bs → Bytes (padded bs)
 padded-bytes bs h =
