@@ -19,7 +19,7 @@ use Rattle.bigendian.proofs.Words.{length-fromWords, fromWords-bytes, length-to
 use Rattle.fips.specs.Editions.{width}
 use Rattle.fips.proofs.Sizes.{known-small, bytes-within}
 use Rattle.halfread.specs.declared.HalfRead.{HalfRead}
-use Rattle.halfread.specs.State.{tailLength, pending, padded, sound, Shaped}
+use Rattle.halfread.specs.State.{tailRoom, tailLength, pending, padded, sound, Shaped}
 use Rattle.halfread.proofs.Fields.{same-state}
 use Rattle.halfread.proofs.Soundness.{Sound, sound-facts}
 use Rattle.halfread.proofs.Tails.{length-pending, length-padded, padded-bytes}
@@ -49,12 +49,16 @@ module _ (f : Form) (h : HalfRead) where
   pub length-front : length (rowBytes (header f h)) ≡ wordsAt f
   length-front = length-row (header f h) ∙ length-header
 
-  pub length-recordIn : Shaped h → length (recordIn f h) ≡ lengthIn f h
+  -- of the shape only the two lengths count
+  pub length-record : length (h .words) ≡ wordCount → length (h .tail) ≡ tailRoom → length (recordIn f h) ≡ lengthIn f h
   unfolding recordIn
-  length-recordIn s =
+  length-record eight wide =
       length-append (rowBytes (header f h)) (W ++ pending h)
-      ∙ ap₂ _+_ length-front (length-append W (pending h) ∙ ap₂ _+_ (length-words (s .eight)) (length-pending h (s .wide)))
+      ∙ ap₂ _+_ length-front (length-append W (pending h) ∙ ap₂ _+_ (length-words eight) (length-pending h wide))
       ∙ omega arith
+
+  pub length-recordIn : Shaped h → length (recordIn f h) ≡ lengthIn f h
+  length-recordIn s = length-record (s .eight) (s .wide)
 
   pub recordIn-bytes : Shaped h → Bytes (recordIn f h)
   unfolding recordIn

@@ -1,2 +1,3 @@
 -- The saved record of a half-read message.
 pub mod Record
+pub mod Rules

@@ -24,20 +24,40 @@ newest = record { countBytes = 8; zeroBytes = 4 }
 abbrev pub wordCount : ℕ
 wordCount = chainRoom
 
--- the bytes of an edition, an offset or a length; where the edition stands, and where the count begins
+-- the bytes of an edition, an offset or a length
 abbrev pub numberBytes : ℕ
 numberBytes = 2
 
+-- where the fields stand that every form has at one place: the edition, how many words, where they begin, where the tail does, the count
 abbrev pub editionAt : ℕ
 editionAt = 0
+
+abbrev pub wordCountAt : ℕ
+wordCountAt = 2
+
+abbrev pub wordsFieldAt : ℕ
+wordsFieldAt = 4
+
+abbrev pub tailFieldAt : ℕ
+tailFieldAt = 6
 
 abbrev pub countAt : ℕ
 countAt = 8
 
 module _ (f : Form) where
+  -- and behind the count: how long the tail is, how long the whole, the zeros
+  abbrev pub tailLengthAt : ℕ
+  tailLengthAt = countAt + f .countBytes
+
+  abbrev pub wholeLengthAt : ℕ
+  wholeLengthAt = tailLengthAt + numberBytes
+
+  abbrev pub zerosAt : ℕ
+  zerosAt = wholeLengthAt + numberBytes
+
   -- where the words begin, and the tail behind them
   abbrev pub wordsAt : ℕ
-  wordsAt = countAt + f .countBytes + numberBytes + numberBytes + f .zeroBytes
+  wordsAt = zerosAt + f .zeroBytes
 
   abbrev pub tailAt : ℕ → ℕ
   tailAt e = wordsAt + wordCount * width e .bytes
@@ -50,13 +70,13 @@ module _ (f : Form) where
     unfoldable pub header : List Field
     header =
         editionAt for numberBytes is h .edition
-        ∷ 2 for numberBytes is wordCount
-        ∷ 4 for numberBytes is wordsAt
-        ∷ 6 for numberBytes is tailAt (h .edition)
+        ∷ wordCountAt for numberBytes is wordCount
+        ∷ wordsFieldAt for numberBytes is wordsAt
+        ∷ tailFieldAt for numberBytes is tailAt (h .edition)
         ∷ countAt for f .countBytes is h .count
-        ∷ (countAt + f .countBytes) for numberBytes is tailLength h
-        ∷ (countAt + f .countBytes + numberBytes) for numberBytes is lengthIn
-        ∷ (countAt + f .countBytes + numberBytes + numberBytes) for f .zeroBytes is 0
+        ∷ tailLengthAt for numberBytes is tailLength h
+        ∷ wholeLengthAt for numberBytes is lengthIn
+        ∷ zerosAt for f .zeroBytes is 0
         ∷ []
 
     unfoldable pub recordIn : List ℕ
