@@ -1,5 +1,5 @@
 -- The record that is saved, by the numbers of SPEC, "The saved record" and "Limits". `record-rules`: bytes are a record exactly where they
--- keep the rules. `record-places`, `tail-places`, `record-sizes`: where each field stands. `record-longest`: they have up to 119 or 215 bytes.
+-- keep the rules. `record-places`, `tail-places` and `record-sizes`: where the fields stand. `record-longest`: up to 119 or 215 bytes.
 use Prim.Native.Nat.{ℕ}
 use mathlib.Core.Bool.{true}
 use mathlib.Core.List.{List}
