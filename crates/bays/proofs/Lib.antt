@@ -2,6 +2,7 @@
 pub mod Frames
 pub mod LaidOut
 pub mod Packing
+pub mod ByWords
 pub mod Header
 pub mod Refusals
 pub mod Settled

@@ -52,13 +52,21 @@ module _ (h : HalfRead) (s : Shaped h) where
       ap (fromWords 8) (drop-at (h .words) t chainWords (s .eight)) ∙ fromWords-toWords-all tailWords 8 (h .tail) (s .bytes) (s .wide) in
       λ i. record { edition = h .edition; count = h .count; words = words i; tail = tail i }
 
+pub eight-halfOf : (b : List ℕ) → length b ≡ bayWords → length (halfOf b .words) ≡ chainWords
+unfolding halfOf
+eight-halfOf b fits = simp (length-take, length-drop, fits)
+
+pub wide-halfOf : (b : List ℕ) → length b ≡ bayWords → length (halfOf b .tail) ≡ tailRoom
+unfolding halfOf
+wide-halfOf b fits = simp (length-fromWords, length-drop, fits)
+
 module _ (b : List ℕ) (fits : length b ≡ bayWords) (words : Below (2 ^ 64) b) where
   pub shaped-halfOf : Shaped (halfOf b)
   unfolding halfOf
   shaped-halfOf =
       record {
-        eight = simp (length-take, length-drop, fits);
-        wide = simp (length-fromWords, length-drop, fits);
+        eight = eight-halfOf b fits;
+        wide = wide-halfOf b fits;
         number = words editionWord;
         counted = words countWord;
         fitting = below-take chainWords (drop chainFrom b) (below-drop chainFrom b words);

@@ -2,4 +2,5 @@
 pub mod Places
 pub mod Table
 pub mod Bay
+pub mod ByWords
 pub mod Gate

@@ -1,0 +1,237 @@
+-- The table word by word: SPEC, "The table of bays". `table-rules`: what makes a run a table. `laid-by-words`, `laid-only`: a layout leaves
+-- what `Laid` says and nothing else does. `half-by-words`, `bay-by-words` and `by-words-only`: a bay's words and the half-read message in
+-- it. `bay-sound-rules`: a bay is sound exactly where it is empty or keeps the five rules. `table-places`, `bay-places`: SPEC's numbers.
+use Prim.Native.Nat.{ℕ, zero, suc, _+_, _-_, _/_, _%_, _^_, _≤_, _<_}
+use mathlib.Core.Bool.{Bool, true, false}
+use mathlib.Core.List.{List, [], _∷_}
+use mathlib.Core.Logic.{_⊎_, inl, inr, ⊎-elim}
+use mathlib.Core.Path.{_≡_, refl, sym, ap, subst, _∙_}
+use native.Mathlib.Decide.{decLt}
+use native.Mathlib.Nat.{mod-lt}
+use native.Mathlib.Omega.{arith}
+use lib.Dec.{eqb, lit<}
+use lib.ListN.{length, getD, drop, length-drop, getD-replicate}
+use lib.Seq.{getD-take, getD-drop, ext-getD}
+use borrow.Author.Tests.{le-leb, eqb-true, eq-eqb}
+use Rattle.slices.specs.Below.{Below}
+use Rattle.slices.proofs.Tests.{holds-at, holds-on, holds-last, every-at, at-every}
+use Rattle.bigendian.proofs.BigEndian.{getD-be}
+use Rattle.bigendian.proofs.Words.{getD-fromWords}
+use Rattle.halfread.specs.declared.HalfRead.{HalfRead}
+use Rattle.halfread.specs.State.{Shaped, sound, tailRoom}
+use Rattle.halfread.proofs.ByRules.{sound-rules, keeps-alike}
+use Rattle.halfread.proofs.Fields.{same-state}
+use Rattle.bays.specs.Places.{baysWord, firstWord, sizeWord, zeroWord, firstBay, mostBays, bayWords, placeOf}
+use Rattle.bays.specs.Places.{editionWord, countWord, chainFrom, chainWords, tailFrom, tailWords}
+use Rattle.bays.specs.Table.{baysOf, roomFor, headed, bayAt, putBay, laidOut}
+use Rattle.bays.specs.Bay.{halfOf, bayOf, isEmpty, soundBay}
+use Rattle.bays.specs.ByWords.{TableRules, Laid, wordAt, byteOf, ByWords, Vacant, TakenRules}
+use Rattle.bays.specs.Gate.{halfAt}
+use Rattle.bays.proofs.Frames.{room-of, headed-room, headed-of, length-bayAt, bayAt-putBay}
+use Rattle.bays.proofs.LaidOut.{length-laidOut, bayAt-laidOut, laidOut-past}
+use Rattle.bays.proofs.Packing.{length-bayOf, halfOf-bayOf, bayOf-halfOf, eight-halfOf, wide-halfOf}
+use Rattle.bays.proofs.Packing.{soundBay-empty, soundBay-taken}
+
+-- ---- SPEC's numbers
+
+-- the header's words, how many they are, the words of a bay, the most bays
+pub table-places : (baysWord ≡ 0) × (firstWord ≡ 1) × (sizeWord ≡ 2) × (zeroWord ≡ 3) × (firstBay ≡ 4) × (bayWords ≡ 26) × (mostBays ≡ 64)
+table-places = (refl, refl, refl, refl, refl, refl, refl)
+
+-- in a bay: the edition, the count, the chaining words and how many, the tail, its words and its bytes
+pub bay-places : (editionWord ≡ 0) × (countWord ≡ 1) × (chainFrom ≡ 2) × (chainWords ≡ 8) × (tailFrom ≡ 10) × (tailWords ≡ 16)
+    × (tailRoom ≡ 128)
+bay-places = (refl, refl, refl, refl, refl, refl, refl)
+
+-- ---- what makes a run a table
+
+module _ (t : List ℕ) where
+  headed-rules : headed t ≡ true → TableRules t
+  unfolding headed
+  headed-rules e =
+      let at =
+      holds-at
+      (roomFor (baysOf t) (length t)
+      ∷ eqb (getD t firstWord 0) firstBay
+      ∷ eqb (getD t sizeWord 0) bayWords
+      ∷ eqb (getD t zeroWord 0) 0
+      ∷ []) e in
+      let room = headed-room t e in
+      record {
+        some = room .some;
+        few = room .few;
+        first = eqb-true (getD t firstWord 0) firstBay (at 1);
+        size = eqb-true (getD t sizeWord 0) bayWords (at 2);
+        spare = eqb-true (getD t zeroWord 0) 0 (at 3);
+        long = room .within;
+      }
+
+  room-holds : TableRules t → roomFor (baysOf t) (length t) ≡ true
+  unfolding roomFor
+  room-holds r =
+      holds-on _ _ (le-leb 1 (baysOf t) (r .some))
+      ∙ holds-on _ _ (le-leb (baysOf t) mostBays (r .few))
+      ∙ holds-last _
+      ∙ le-leb (placeOf (baysOf t)) (length t) (r .long)
+
+  pub table-rules : (headed t ≡ true → TableRules t) × (TableRules t → headed t ≡ true)
+  table-rules = (headed-rules, λ r. headed-of t (room-holds r) (r .first) (r .size) (r .spare))
+
+-- ---- a bay's words are words of the table
+
+pub word-of-bay : (t : List ℕ) (i j : ℕ) → j < bayWords → getD (bayAt t i) j 0 ≡ wordAt t i j
+unfolding bayAt
+word-of-bay t i j p = getD-take bayWords (drop (placeOf i) t) j 0 p ∙ getD-drop (placeOf i) t j 0
+
+-- ---- a layout
+
+module _ (n : ℕ) (t : List ℕ) where
+  pub laid-by-words : roomFor n (length t) ≡ true → Laid n t (laidOut n t)
+  unfolding laidOut
+  laid-by-words e =
+      record {
+        count = refl;
+        first = refl;
+        size = refl;
+        spare = refl;
+        empty = λ i j p q.
+            sym (word-of-bay (laidOut n t) i j q)
+            ∙ ap (λ l. getD l j 0) (bayAt-laidOut n t i p)
+            ∙ getD-replicate bayWords j 0 0 q;
+        callers = λ k p.
+            let at : placeOf n + (k - placeOf n) ≡ k = omega arith in
+            ap (λ (m : ℕ). getD (laidOut n t) m 0) (sym at)
+            ∙ sym (getD-drop (placeOf n) (laidOut n t) (k - placeOf n) 0)
+            ∙ ap (λ l. getD l (k - placeOf n) 0) (laidOut-past n t)
+            ∙ getD-drop (placeOf n) t (k - placeOf n) 0
+            ∙ ap (λ (m : ℕ). getD t m 0) at;
+        long = length-laidOut n t (room-of n (length t) e .within);
+      }
+
+  -- two runs that a layout may leave
+  module _ (a b : List ℕ) (p : Laid n t a) (q : Laid n t b) where
+    head-same : (k : ℕ) → k < firstBay → getD a k 0 ≡ getD b k 0
+    head-same zero h = p .count ∙ sym (q .count)
+    head-same (suc zero) h = p .first ∙ sym (q .first)
+    head-same (suc (suc zero)) h = p .size ∙ sym (q .size)
+    head-same (suc (suc (suc zero))) h = p .spare ∙ sym (q .spare)
+    head-same (suc (suc (suc (suc k)))) h = absurd (omega arith)
+
+    -- word k lies in bay (k - 4) / 26
+    bay-same : (k : ℕ) → firstBay ≤ k → k < placeOf n → getD a k 0 ≡ getD b k 0
+    bay-same k h l =
+        let i = (k - firstBay) / bayWords in
+        let j = (k - firstBay) % bayWords in
+        let at : placeOf i + j ≡ k = omega arith in
+        let below : i < n = omega arith in
+        let within : j < bayWords = omega arith in
+        ap (λ (m : ℕ). getD a m 0) (sym at)
+        ∙ p .empty i j below within
+        ∙ sym (q .empty i j below within)
+        ∙ ap (λ (m : ℕ). getD b m 0) at
+
+    pub laid-settled : a ≡ b
+    laid-settled = ext-getD 0 a b (p .long ∙ sym (q .long)) (λ k h. go k (decLt k firstBay) (decLt k (placeOf n)))
+      where
+        go : (k : ℕ) → Dec (k < firstBay) → Dec (k < placeOf n) → getD a k 0 ≡ getD b k 0
+        go k (yes h) d = head-same k h
+        go k (no h) (yes l) = bay-same k (omega arith) l
+        go k (no h) (no l) = p .callers k (omega arith) ∙ sym (q .callers k (omega arith))
+
+  pub laid-only : roomFor n (length t) ≡ true → (new : List ℕ) → Laid n t new → new ≡ laidOut n t
+  laid-only e new p = laid-settled new (laidOut n t) p (laid-by-words e)
+
+-- ---- what a bay holds
+
+-- only its words count
+by-words-alike : (bay bay′ : ℕ → ℕ) (h : HalfRead) → ((j : ℕ) → j < bayWords → bay j ≡ bay′ j) → ByWords bay h → ByWords bay′ h
+by-words-alike bay bay′ h e r =
+    record {
+      edition = r .edition ∙ e editionWord (lit< tt);
+      count = r .count ∙ e countWord (lit< tt);
+      chain = λ j p. r .chain j p ∙ e (chainFrom + j) (omega arith);
+      tail = λ k p. r .tail k p ∙ ap (λ (x : ℕ). byteOf x (k % 8)) (e (tailFrom + k / 8) (omega arith));
+    }
+
+pub half-by-words : (b : List ℕ) → length b ≡ bayWords → ByWords (λ j. getD b j 0) (halfOf b)
+unfolding halfOf
+half-by-words b fits =
+    record {
+      edition = refl;
+      count = refl;
+      chain = λ j p. getD-take chainWords (drop chainFrom b) j 0 p ∙ getD-drop chainFrom b j 0;
+      tail = λ k p.
+          let i = k % 8 in
+          let from : 8 - suc i ≡ 7 - i = omega arith in
+          getD-fromWords 8 (drop tailFrom b) k (omega (arith, length-drop tailFrom b))
+          ∙ getD-be 8 (getD (drop tailFrom b) (k / 8) 0) i (mod-lt k (lit< tt))
+          ∙ ap (λ (m : ℕ). getD (drop tailFrom b) (k / 8) 0 / 256 ^ m % 256) from
+          ∙ ap (λ (x : ℕ). byteOf x i) (getD-drop tailFrom b (k / 8) 0);
+    }
+
+pub bay-by-words : (h : HalfRead) → Shaped h → ByWords (λ j. getD (bayOf h) j 0) h
+bay-by-words h s = subst (ByWords (λ j. getD (bayOf h) j 0)) (halfOf-bayOf h s) (half-by-words (bayOf h) (length-bayOf h s))
+
+-- in a table
+pub half-at-words : (t : List ℕ) (i : ℕ) → placeOf i + bayWords ≤ length t → ByWords (wordAt t i) (halfAt t i)
+half-at-words t i inside =
+    by-words-alike (λ j. getD (bayAt t i) j 0) (wordAt t i) (halfAt t i) (word-of-bay t i)
+    (half-by-words (bayAt t i) (length-bayAt t i inside))
+
+pub put-by-words : (t : List ℕ) (i : ℕ) (h : HalfRead) → Shaped h → placeOf i + bayWords ≤ length t →
+    ByWords (wordAt (putBay t i (bayOf h)) i) h
+put-by-words t i h s inside =
+    let new = putBay t i (bayOf h) in
+    by-words-alike (λ j. getD (bayOf h) j 0) (wordAt new i) h
+    (λ j p. ap (λ l. getD l j 0) (sym (bayAt-putBay t i (bayOf h) (length-bayOf h s) inside)) ∙ word-of-bay new i j p) (bay-by-words h s)
+
+-- so the words of a bay are fixed by what it holds
+pub by-words-only : (b : List ℕ) (h : HalfRead) → length b ≡ bayWords → Below (2 ^ 64) b → Shaped h → ByWords (λ j. getD b j 0) h →
+    b ≡ bayOf h
+by-words-only b h fits small s r =
+    let o = half-by-words b fits in
+    let words : h .words ≡ halfOf b .words =
+    ext-getD 0 (h .words) (halfOf b .words) (s .eight ∙ sym (eight-halfOf b fits))
+    (λ j p. r .chain j (omega (arith, s .eight)) ∙ sym (o .chain j (omega (arith, s .eight)))) in
+    let tail : h .tail ≡ halfOf b .tail =
+    ext-getD 0 (h .tail) (halfOf b .tail) (s .wide ∙ sym (wide-halfOf b fits))
+    (λ k p. r .tail k (omega (arith, s .wide)) ∙ sym (o .tail k (omega (arith, s .wide)))) in
+    let is : h ≡ halfOf b = same-state h (halfOf b) (r .edition ∙ sym (o .edition)) (r .count ∙ sym (o .count)) words tail in
+    sym (bayOf-halfOf b fits small) ∙ sym (ap bayOf is)
+
+-- ---- a bay that is sound, rule by rule
+
+pub empty-rules : (b : List ℕ) → length b ≡ bayWords →
+    (isEmpty b ≡ true → Vacant (λ j. getD b j 0)) × (Vacant (λ j. getD b j 0) → isEmpty b ≡ true)
+unfolding isEmpty
+empty-rules b fits = (
+  λ e j p. eqb-true (getD b j 0) 0 (every-at (λ x. eqb x 0) 0 b e j (omega arith)),
+  λ v. at-every (λ x. eqb x 0) 0 b (λ j p. eq-eqb (getD b j 0) 0 (v j (omega arith))),
+)
+
+module _ (b : List ℕ) (fits : length b ≡ bayWords) where
+  abbrev bay : ℕ → ℕ
+  bay j = getD b j 0
+
+  pub taken-rules : (sound (halfOf b) ≡ true → TakenRules bay) × (TakenRules bay → sound (halfOf b) ≡ true)
+  taken-rules =
+      let r = half-by-words b fits in
+      let both = sound-rules (halfOf b) (eight-halfOf b fits) (wide-halfOf b fits) in (
+        λ e. keeps-alike (r .edition) (r .count) (r .chain) (r .tail) (both .0 e),
+        λ k. both .1
+            (keeps-alike (sym (r .edition)) (sym (r .count)) (λ j p. sym (r .chain j p)) (λ j p. sym (r .tail j p)) k),
+      )
+
+  pub bay-sound-rules : (soundBay b ≡ true → Vacant bay ⊎ TakenRules bay) × (Vacant bay ⊎ TakenRules bay → soundBay b ≡ true)
+  bay-sound-rules = (λ e. into (isEmpty b) refl e, ⊎-elim vacant (λ r. taken (isEmpty b) refl (taken-rules .1 r)))
+    where
+      into : (x : Bool) → isEmpty b ≡ x → soundBay b ≡ true → Vacant bay ⊎ TakenRules bay
+      into true q e = inl (empty-rules b fits .0 q)
+      into false q e = inr (taken-rules .0 (sym (soundBay-taken b q) ∙ e))
+
+      vacant : Vacant bay → soundBay b ≡ true
+      vacant v = soundBay-empty b (empty-rules b fits .1 v)
+
+      taken : (x : Bool) → isEmpty b ≡ x → sound (halfOf b) ≡ true → soundBay b ≡ true
+      taken true q e = soundBay-empty b q
+      taken false q e = soundBay-taken b q ∙ e
