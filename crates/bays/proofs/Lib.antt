@@ -2,7 +2,8 @@
 pub mod Frames
 pub mod LaidOut
 pub mod Packing
-pub mod ByWords
+pub mod TableByWords
+pub mod BayByWords
 pub mod Header
 pub mod Refusals
 pub mod Settled

@@ -32,8 +32,8 @@ keeps-alike {e} {c} {e′} {c′} {chain} {tail} {chain′} {tail′} isE isC wo
       edition = r .edition;
       length = r .length;
       words = λ j h. subst (λ (x : ℕ). x < 2 ^ word (width e)) (words j h) (r .words j h);
-      zeros = λ k p h. sym (bytes k h) ∙ r .zeros k p h;
-      begun = λ p j h. sym (words j h) ∙ r .begun p j h;
+      tail = λ k p h. sym (bytes k h) ∙ r .tail k p h;
+      start = λ p j h. sym (words j h) ∙ r .start p j h;
     }))
 
 module _ (h : HalfRead) (eight : length (h .words) ≡ chainRoom) (wide : length (h .tail) ≡ tailRoom) where
@@ -45,13 +45,13 @@ module _ (h : HalfRead) (eight : length (h .words) ≡ chainRoom) (wide : length
         edition = facts .known;
         length = facts .limited;
         words = λ j p. facts .below j;
-        zeros = λ k p q.
+        tail = λ k p q.
             let at : n + (k - n) ≡ k = omega arith in
             ap (λ (i : ℕ). getD (h .tail) i 0) (sym at)
             ∙ sym (getD-drop n (h .tail) (k - n) 0)
             ∙ ap (λ l. getD l (k - n) 0) (zeros-behind h isSound wide)
             ∙ getD-replicate (tailRoom - n) (k - n) 0 0 (omega arith);
-        begun = λ p j q. ap (λ l. getD l j 0) (facts .begun p);
+        start = λ p j q. ap (λ l. getD l j 0) (facts .begun p);
       }
 
   below-all : Keeps h → Below (2 ^ word (width (h .edition))) (h .words)
@@ -73,10 +73,10 @@ module _ (h : HalfRead) (eight : length (h .words) ≡ chainRoom) (wide : length
         zero =
             at-every (λ x. eqb x 0) 0 (drop n (h .tail))
             (λ i p. eq-eqb _ 0
-            (getD-drop n (h .tail) i 0 ∙ r .zeros (n + i) (omega arith) (omega (arith, length-drop n (h .tail)))));
+            (getD-drop n (h .tail) i 0 ∙ r .tail (n + i) (omega arith) (omega (arith, length-drop n (h .tail)))));
       })
       (λ p. ext-getD 0 (h .words) (start (h .edition)) (eight ∙ sym (length-start (h .edition)))
-      (λ j q. r .begun p j (omega arith)))
+      (λ j q. r .start p j (omega arith)))
 
   pub sound-rules : (sound h ≡ true → Keeps h) × (Keeps h → sound h ≡ true)
   sound-rules = (sound-keeps, keeps-sound)

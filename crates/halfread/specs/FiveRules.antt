@@ -10,13 +10,13 @@ use Rattle.sha2.specs.Limit.{tooLong}
 use Rattle.halfread.specs.declared.HalfRead.{HalfRead}
 use Rattle.halfread.specs.State.{chainRoom, tailRoom}
 
-pub record FiveRules (e c : ℕ) (chain tail : ℕ → ℕ) : Type 0 where
+pub record FiveRules (e c : ℕ) (chain byte : ℕ → ℕ) : Type 0 where
   pub edition : known e ≡ true
   pub length : tooLong e c 0 ≡ false
   pub words : (j : ℕ) → j < chainRoom → chain j < 2 ^ word (width e)
   -- the first c mod B bytes may be any, all others are 0
-  pub zeros : (k : ℕ) → c % blockBytes (width e) ≤ k → k < tailRoom → tail k ≡ 0
-  pub begun : c < blockBytes (width e) → (j : ℕ) → j < chainRoom → chain j ≡ getD (start e) j 0
+  pub tail : (k : ℕ) → c % blockBytes (width e) ≤ k → k < tailRoom → byte k ≡ 0
+  pub start : c < blockBytes (width e) → (j : ℕ) → j < chainRoom → chain j ≡ getD (start e) j 0
 
 -- a half-read message that keeps them
 abbrev pub Keeps : HalfRead → Type 0

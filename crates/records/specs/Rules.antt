@@ -33,6 +33,8 @@ module _ (f : Form) (bytes : List ℕ) where
   abbrev pub tailIn : ℕ → ℕ
   tailIn k = getD bytes (tailAt f (editionIn bytes) + k) 0
 
+  -- the lines of the table but edition and count, which the rules below ask: count of words, words at, tail at, tail length, whole
+  -- length, spare; then what is lent, words and tail
   pub record Rules : Type 0 where
     pub counted : fieldIn bytes wordCountAt numberBytes ≡ wordCount
     pub wordsFrom : fieldIn bytes wordsFieldAt numberBytes ≡ wordsAt f
@@ -42,7 +44,7 @@ module _ (f : Form) (bytes : List ℕ) where
     pub zeros : fieldIn bytes (zerosAt f) (f .zeroBytes) ≡ 0
     -- as many bytes are lent as the whole length says
     pub lent : length bytes ≡ fieldIn bytes (wholeLengthAt f) numberBytes
-    -- what they tell of keeps the rules of a sound, taken bay: edition, length, words, tail, start
+    -- what they tell of keeps the five rules of a sound, taken bay: edition, length, words, tail, start
     pub keeps : FiveRules (editionIn bytes) countIn chainIn tailIn
 
 -- the longest record of an edition, whose tail wants one byte of a block

@@ -1,145 +1,40 @@
--- The table word by word: SPEC, "The table of bays". `table-rules`: what makes a run a table. `laid-by-words`, `laid-only`: a layout leaves
--- what `Laid` says and nothing else does. `half-by-words`, `bay-by-words` and `by-words-only`: a bay's words and the half-read message in
--- it. `bay-sound-rules`: a bay is sound exactly where it is empty or keeps the five rules. `table-places`, `bay-places`: SPEC's numbers.
-use Prim.Native.Nat.{ℕ, zero, suc, _+_, _-_, _/_, _%_, _^_, _≤_, _<_}
+-- A bay word by word: SPEC, "The table of bays". `half-by-words`, `bay-by-words` and `by-words-only`: its words and the message half read
+-- in it; in a table `half-at-words` and `put-by-words`. `bay-sound-rules`: it is sound exactly where it is empty or keeps the five rules.
+-- `bay-places`: SPEC's numbers.
+use Prim.Native.Nat.{ℕ, suc, _+_, _-_, _/_, _%_, _^_, _≤_, _<_}
 use mathlib.Core.Bool.{Bool, true, false}
-use mathlib.Core.List.{List, [], _∷_}
+use mathlib.Core.List.{List}
 use mathlib.Core.Logic.{_⊎_, inl, inr, ⊎-elim}
 use mathlib.Core.Path.{_≡_, refl, sym, ap, subst, _∙_}
-use native.Mathlib.Decide.{decLt}
 use native.Mathlib.Nat.{mod-lt}
 use native.Mathlib.Omega.{arith}
 use lib.Dec.{eqb, lit<}
-use lib.ListN.{length, getD, drop, length-drop, getD-replicate}
+use lib.ListN.{length, getD, drop, length-drop}
 use lib.Seq.{getD-take, getD-drop, ext-getD}
-use borrow.Author.Tests.{le-leb, eqb-true, eq-eqb}
+use borrow.Author.Tests.{eqb-true, eq-eqb}
 use Rattle.slices.specs.Below.{Below}
-use Rattle.slices.proofs.Tests.{holds-at, holds-on, holds-last, every-at, at-every}
+use Rattle.slices.proofs.Tests.{every-at, at-every}
 use Rattle.bigendian.proofs.BigEndian.{getD-be}
 use Rattle.bigendian.proofs.Words.{getD-fromWords}
 use Rattle.halfread.specs.declared.HalfRead.{HalfRead}
 use Rattle.halfread.specs.State.{Shaped, sound, tailRoom}
 use Rattle.halfread.proofs.ByRules.{sound-rules, keeps-alike}
 use Rattle.halfread.proofs.Fields.{same-state}
-use Rattle.bays.specs.Places.{baysWord, firstWord, sizeWord, zeroWord, firstBay, mostBays, bayWords, placeOf}
+use Rattle.bays.specs.Places.{bayWords, placeOf}
 use Rattle.bays.specs.Places.{editionWord, countWord, chainFrom, chainWords, tailFrom, tailWords}
-use Rattle.bays.specs.Table.{baysOf, roomFor, headed, bayAt, putBay, laidOut}
+use Rattle.bays.specs.Table.{bayAt, putBay}
 use Rattle.bays.specs.Bay.{halfOf, bayOf, isEmpty, soundBay}
-use Rattle.bays.specs.ByWords.{TableRules, Laid, wordAt, byteOf, ByWords, Vacant, TakenRules}
+use Rattle.bays.specs.ByWords.{wordAt, byteOf, ByWords, Vacant, TakenRules}
 use Rattle.bays.specs.Gate.{halfAt}
-use Rattle.bays.proofs.Frames.{room-of, headed-room, headed-of, length-bayAt, bayAt-putBay}
-use Rattle.bays.proofs.LaidOut.{length-laidOut, bayAt-laidOut, laidOut-past}
+use Rattle.bays.proofs.Frames.{length-bayAt, bayAt-putBay}
 use Rattle.bays.proofs.Packing.{length-bayOf, halfOf-bayOf, bayOf-halfOf, eight-halfOf, wide-halfOf}
 use Rattle.bays.proofs.Packing.{soundBay-empty, soundBay-taken}
+use Rattle.bays.proofs.TableByWords.{word-of-bay}
 
--- ---- SPEC's numbers
-
--- the header's words, how many they are, the words of a bay, the most bays
-pub table-places : (baysWord ≡ 0) × (firstWord ≡ 1) × (sizeWord ≡ 2) × (zeroWord ≡ 3) × (firstBay ≡ 4) × (bayWords ≡ 26) × (mostBays ≡ 64)
-table-places = (refl, refl, refl, refl, refl, refl, refl)
-
--- in a bay: the edition, the count, the chaining words and how many, the tail, its words and its bytes
+-- SPEC's numbers in a bay: the edition, the count, the chaining words and how many, the tail, its words and its bytes
 pub bay-places : (editionWord ≡ 0) × (countWord ≡ 1) × (chainFrom ≡ 2) × (chainWords ≡ 8) × (tailFrom ≡ 10) × (tailWords ≡ 16)
     × (tailRoom ≡ 128)
 bay-places = (refl, refl, refl, refl, refl, refl, refl)
-
--- ---- what makes a run a table
-
-module _ (t : List ℕ) where
-  headed-rules : headed t ≡ true → TableRules t
-  unfolding headed
-  headed-rules e =
-      let at =
-      holds-at
-      (roomFor (baysOf t) (length t)
-      ∷ eqb (getD t firstWord 0) firstBay
-      ∷ eqb (getD t sizeWord 0) bayWords
-      ∷ eqb (getD t zeroWord 0) 0
-      ∷ []) e in
-      let room = headed-room t e in
-      record {
-        some = room .some;
-        few = room .few;
-        first = eqb-true (getD t firstWord 0) firstBay (at 1);
-        size = eqb-true (getD t sizeWord 0) bayWords (at 2);
-        spare = eqb-true (getD t zeroWord 0) 0 (at 3);
-        long = room .within;
-      }
-
-  room-holds : TableRules t → roomFor (baysOf t) (length t) ≡ true
-  unfolding roomFor
-  room-holds r =
-      holds-on _ _ (le-leb 1 (baysOf t) (r .some))
-      ∙ holds-on _ _ (le-leb (baysOf t) mostBays (r .few))
-      ∙ holds-last _
-      ∙ le-leb (placeOf (baysOf t)) (length t) (r .long)
-
-  pub table-rules : (headed t ≡ true → TableRules t) × (TableRules t → headed t ≡ true)
-  table-rules = (headed-rules, λ r. headed-of t (room-holds r) (r .first) (r .size) (r .spare))
-
--- ---- a bay's words are words of the table
-
-pub word-of-bay : (t : List ℕ) (i j : ℕ) → j < bayWords → getD (bayAt t i) j 0 ≡ wordAt t i j
-unfolding bayAt
-word-of-bay t i j p = getD-take bayWords (drop (placeOf i) t) j 0 p ∙ getD-drop (placeOf i) t j 0
-
--- ---- a layout
-
-module _ (n : ℕ) (t : List ℕ) where
-  pub laid-by-words : roomFor n (length t) ≡ true → Laid n t (laidOut n t)
-  unfolding laidOut
-  laid-by-words e =
-      record {
-        count = refl;
-        first = refl;
-        size = refl;
-        spare = refl;
-        empty = λ i j p q.
-            sym (word-of-bay (laidOut n t) i j q)
-            ∙ ap (λ l. getD l j 0) (bayAt-laidOut n t i p)
-            ∙ getD-replicate bayWords j 0 0 q;
-        callers = λ k p.
-            let at : placeOf n + (k - placeOf n) ≡ k = omega arith in
-            ap (λ (m : ℕ). getD (laidOut n t) m 0) (sym at)
-            ∙ sym (getD-drop (placeOf n) (laidOut n t) (k - placeOf n) 0)
-            ∙ ap (λ l. getD l (k - placeOf n) 0) (laidOut-past n t)
-            ∙ getD-drop (placeOf n) t (k - placeOf n) 0
-            ∙ ap (λ (m : ℕ). getD t m 0) at;
-        long = length-laidOut n t (room-of n (length t) e .within);
-      }
-
-  -- two runs that a layout may leave
-  module _ (a b : List ℕ) (p : Laid n t a) (q : Laid n t b) where
-    head-same : (k : ℕ) → k < firstBay → getD a k 0 ≡ getD b k 0
-    head-same zero h = p .count ∙ sym (q .count)
-    head-same (suc zero) h = p .first ∙ sym (q .first)
-    head-same (suc (suc zero)) h = p .size ∙ sym (q .size)
-    head-same (suc (suc (suc zero))) h = p .spare ∙ sym (q .spare)
-    head-same (suc (suc (suc (suc k)))) h = absurd (omega arith)
-
-    -- word k lies in bay (k - 4) / 26
-    bay-same : (k : ℕ) → firstBay ≤ k → k < placeOf n → getD a k 0 ≡ getD b k 0
-    bay-same k h l =
-        let i = (k - firstBay) / bayWords in
-        let j = (k - firstBay) % bayWords in
-        let at : placeOf i + j ≡ k = omega arith in
-        let below : i < n = omega arith in
-        let within : j < bayWords = omega arith in
-        ap (λ (m : ℕ). getD a m 0) (sym at)
-        ∙ p .empty i j below within
-        ∙ sym (q .empty i j below within)
-        ∙ ap (λ (m : ℕ). getD b m 0) at
-
-    pub laid-settled : a ≡ b
-    laid-settled = ext-getD 0 a b (p .long ∙ sym (q .long)) (λ k h. go k (decLt k firstBay) (decLt k (placeOf n)))
-      where
-        go : (k : ℕ) → Dec (k < firstBay) → Dec (k < placeOf n) → getD a k 0 ≡ getD b k 0
-        go k (yes h) d = head-same k h
-        go k (no h) (yes l) = bay-same k (omega arith) l
-        go k (no h) (no l) = p .callers k (omega arith) ∙ sym (q .callers k (omega arith))
-
-  pub laid-only : roomFor n (length t) ≡ true → (new : List ℕ) → Laid n t new → new ≡ laidOut n t
-  laid-only e new p = laid-settled new (laidOut n t) p (laid-by-words e)
 
 -- ---- what a bay holds
 
