@@ -1,6 +1,6 @@
 -- A bay word by word: SPEC, "The table of bays". `half-by-words`, `bay-by-words` and `by-words-only`: its words and the message half read
--- in it; in a table `half-at-words` and `put-by-words`. `bay-sound-rules`: it is sound exactly where it is empty or keeps the five rules.
--- `bay-places`: SPEC's numbers.
+-- in it; in a table `half-at-words` and `put-by-words`. `bay-sound-rules`: it is sound exactly where it is empty or keeps the five rules;
+-- in a table `sound-at-rules`. `bay-places`: SPEC's numbers.
 use Prim.Native.Nat.{ℕ, suc, _+_, _-_, _/_, _%_, _^_, _≤_, _<_}
 use mathlib.Core.Bool.{Bool, true, false}
 use mathlib.Core.List.{List}
@@ -96,37 +96,54 @@ by-words-only b h fits small s r =
 
 -- ---- a bay that is sound, rule by rule
 
-pub empty-rules : (b : List ℕ) → length b ≡ bayWords →
-    (isEmpty b ≡ true → Vacant (λ j. getD b j 0)) × (Vacant (λ j. getD b j 0) → isEmpty b ≡ true)
-unfolding isEmpty
-empty-rules b fits = (
-  λ e j p. eqb-true (getD b j 0) 0 (every-at (λ x. eqb x 0) 0 b e j (omega arith)),
-  λ v. at-every (λ x. eqb x 0) 0 b (λ j p. eq-eqb (getD b j 0) 0 (v j (omega arith))),
-)
+-- where its words are read does not matter
+module _ (b : List ℕ) (fits : length b ≡ bayWords) (bay : ℕ → ℕ) (is : (j : ℕ) → j < bayWords → getD b j 0 ≡ bay j) where
+  empty-read : (isEmpty b ≡ true → Vacant bay) × (Vacant bay → isEmpty b ≡ true)
+  unfolding isEmpty
+  empty-read = (
+    λ e j p. sym (is j p) ∙ eqb-true (getD b j 0) 0 (every-at (λ x. eqb x 0) 0 b e j (omega arith)),
+    λ v. at-every (λ x. eqb x 0) 0 b (λ j p. eq-eqb (getD b j 0) 0 (is j (omega arith) ∙ v j (omega arith))),
+  )
 
-module _ (b : List ℕ) (fits : length b ≡ bayWords) where
-  abbrev bay : ℕ → ℕ
-  bay j = getD b j 0
-
-  pub taken-rules : (sound (halfOf b) ≡ true → TakenRules bay) × (TakenRules bay → sound (halfOf b) ≡ true)
-  taken-rules =
-      let r = half-by-words b fits in
+  taken-read : (sound (halfOf b) ≡ true → TakenRules bay) × (TakenRules bay → sound (halfOf b) ≡ true)
+  taken-read =
+      let r = by-words-alike (λ j. getD b j 0) bay (halfOf b) is (half-by-words b fits) in
       let both = sound-rules (halfOf b) (eight-halfOf b fits) (wide-halfOf b fits) in (
         λ e. keeps-alike (r .edition) (r .count) (r .chain) (r .tail) (both .0 e),
         λ k. both .1
             (keeps-alike (sym (r .edition)) (sym (r .count)) (λ j p. sym (r .chain j p)) (λ j p. sym (r .tail j p)) k),
       )
 
-  pub bay-sound-rules : (soundBay b ≡ true → Vacant bay ⊎ TakenRules bay) × (Vacant bay ⊎ TakenRules bay → soundBay b ≡ true)
-  bay-sound-rules = (λ e. into (isEmpty b) refl e, ⊎-elim vacant (λ r. taken (isEmpty b) refl (taken-rules .1 r)))
+  sound-read : (soundBay b ≡ true → Vacant bay ⊎ TakenRules bay) × (Vacant bay ⊎ TakenRules bay → soundBay b ≡ true)
+  sound-read = (λ e. into (isEmpty b) refl e, ⊎-elim vacant (λ r. taken (isEmpty b) refl (taken-read .1 r)))
     where
       into : (x : Bool) → isEmpty b ≡ x → soundBay b ≡ true → Vacant bay ⊎ TakenRules bay
-      into true q e = inl (empty-rules b fits .0 q)
-      into false q e = inr (taken-rules .0 (sym (soundBay-taken b q) ∙ e))
+      into true q e = inl (empty-read .0 q)
+      into false q e = inr (taken-read .0 (sym (soundBay-taken b q) ∙ e))
 
       vacant : Vacant bay → soundBay b ≡ true
-      vacant v = soundBay-empty b (empty-rules b fits .1 v)
+      vacant v = soundBay-empty b (empty-read .1 v)
 
       taken : (x : Bool) → isEmpty b ≡ x → sound (halfOf b) ≡ true → soundBay b ≡ true
       taken true q e = soundBay-empty b q
       taken false q e = soundBay-taken b q ∙ e
+
+-- of a bay's words
+module _ (b : List ℕ) (fits : length b ≡ bayWords) where
+  abbrev bay : ℕ → ℕ
+  bay j = getD b j 0
+
+  pub bay-empty-rules : (isEmpty b ≡ true → Vacant bay) × (Vacant bay → isEmpty b ≡ true)
+  bay-empty-rules = empty-read b fits bay (λ j p. refl)
+
+  pub bay-sound-rules : (soundBay b ≡ true → Vacant bay ⊎ TakenRules bay) × (Vacant bay ⊎ TakenRules bay → soundBay b ≡ true)
+  bay-sound-rules = sound-read b fits bay (λ j p. refl)
+
+-- of the words of a table
+module _ (t : List ℕ) (i : ℕ) (inside : placeOf i + bayWords ≤ length t) where
+  pub empty-at-rules : (isEmpty (bayAt t i) ≡ true → Vacant (wordAt t i)) × (Vacant (wordAt t i) → isEmpty (bayAt t i) ≡ true)
+  empty-at-rules = empty-read (bayAt t i) (length-bayAt t i inside) (wordAt t i) (word-of-bay t i)
+
+  pub sound-at-rules : (soundBay (bayAt t i) ≡ true → Vacant (wordAt t i) ⊎ TakenRules (wordAt t i))
+      × (Vacant (wordAt t i) ⊎ TakenRules (wordAt t i) → soundBay (bayAt t i) ≡ true)
+  sound-at-rules = sound-read (bayAt t i) (length-bayAt t i inside) (wordAt t i) (word-of-bay t i)

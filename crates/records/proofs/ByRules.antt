@@ -75,14 +75,14 @@ module _ (f : Form) (bytes : List ℕ) where
 
 -- ---- a record keeps the rules
 
-module _ (f : Form) (fits : (e : ℕ) → longestOf f e < 256 ^ numberBytes) (bytes : List ℕ) (all : Bytes bytes) where
+module _ (f : Form) where
   -- one field of what is written
   written : (h : HalfRead) (i : ℕ) → getD (header f h) i noField .value < 256 ^ getD (header f h) i noField .bytes →
       fieldIn (recordIn f h) (getD (header f h) i noField .place) (getD (header f h) i noField .bytes) ≡ getD (header f h) i noField .value
   unfolding recordIn
   written h i p = field-read (header f h) (fromWords (width (h .edition) .bytes) (h .words) ++ pending h) i (header-in-order f h) p
 
-  module _ (isOne : isRecordIn f bytes ≡ true) where
+  module _ (fits : (e : ℕ) → longestOf f e < 256 ^ numberBytes) (bytes : List ℕ) (isOne : isRecordIn f bytes ≡ true) where
     saves : recordIn f (H f bytes) ≡ bytes
     saves = form-loaded-saves f bytes isOne
 
@@ -95,9 +95,9 @@ module _ (f : Form) (fits : (e : ℕ) → longestOf f e < 256 ^ numberBytes) (by
         (sym saves)
         ∙ written (H f bytes) i p
 
-    record-keeps : Rules f bytes
+    pub form-record-keeps : Rules f bytes
     unfolding header readIn
-    record-keeps =
+    form-record-keeps =
         let e = editionIn bytes in
         let small = tail-lt (H f bytes) in
         let whole = stands 6 (omega (arith, fits e, small)) in
@@ -114,63 +114,64 @@ module _ (f : Form) (fits : (e : ℕ) → longestOf f e < 256 ^ numberBytes) (by
               (sound-rules (H f bytes) (eight f bytes) (wide f bytes) .0 (form-loaded-sound f bytes isOne));
         }
 
-  -- ---- and bytes that keep them are a record
+-- ---- and bytes that keep them are a record
 
-  module _ (r : Rules f bytes) where
-    sized : length bytes ≡ tailFrom f bytes + leftIn f bytes
-    sized = r .lent ∙ r .wholeLong
+module _ (f : Form) (bytes : List ℕ) (all : Bytes bytes) (r : Rules f bytes) where
+  sized : length bytes ≡ tailFrom f bytes + leftIn f bytes
+  sized = r .lent ∙ r .wholeLong
 
-    sound-read : sound (H f bytes) ≡ true
-    unfolding readIn
-    sound-read =
-        sound-rules (H f bytes) (eight f bytes) (wide f bytes) .1
-        (keeps-alike refl refl (λ j p. sym (chain-read f bytes j p)) (λ k p. sym (tail-read f bytes sized k p)) (r .keeps))
+  sound-read : sound (H f bytes) ≡ true
+  unfolding readIn
+  sound-read =
+      sound-rules (H f bytes) (eight f bytes) (wide f bytes) .1
+      (keeps-alike refl refl (λ j p. sym (chain-read f bytes j p)) (λ k p. sym (tail-read f bytes sized k p)) (r .keeps))
 
-    header-reads : Reads (header f (H f bytes)) bytes
-    unfolding header readIn readRow
-    header-reads =
-        ap₂ _∷_ refl
-        (ap₂ _∷_ (r .counted)
-        (ap₂ _∷_ (r .wordsFrom)
-        (ap₂ _∷_ (r .tailFrom)
-        (ap₂ _∷_ refl
-        (ap₂ _∷_ (r .tailLong)
-        (ap₂ _∷_ (r .wholeLong)
-        (ap₂ _∷_ (r .zeros) refl)))))))
+  header-reads : Reads (header f (H f bytes)) bytes
+  unfolding header readIn readRow
+  header-reads =
+      ap₂ _∷_ refl
+      (ap₂ _∷_ (r .counted)
+      (ap₂ _∷_ (r .wordsFrom)
+      (ap₂ _∷_ (r .tailFrom)
+      (ap₂ _∷_ refl
+      (ap₂ _∷_ (r .tailLong)
+      (ap₂ _∷_ (r .wholeLong)
+      (ap₂ _∷_ (r .zeros) refl)))))))
 
-    front-is : rowBytes (header f (H f bytes)) ≡ take (wordsAt f) bytes
-    front-is =
-        let size = length-header f (H f bytes) in
-        sym (row-is (header f (H f bytes)) bytes all (header-in-order f (H f bytes)) header-reads (omega (arith, sized)))
-        ∙ ap (λ (k : ℕ). take k bytes) size
+  front-is : rowBytes (header f (H f bytes)) ≡ take (wordsAt f) bytes
+  front-is =
+      let size = length-header f (H f bytes) in
+      sym (row-is (header f (H f bytes)) bytes all (header-in-order f (H f bytes)) header-reads (omega (arith, sized)))
+      ∙ ap (λ (k : ℕ). take k bytes) size
 
-    words-are : fromWords (n f bytes) (H f bytes .words) ≡ take (wordCount * n f bytes) (drop (wordsAt f) bytes)
-    unfolding readIn
-    words-are =
-        fromWords-toWords wordCount (n f bytes) (drop (wordsAt f) bytes) (below-drop (wordsAt f) bytes all)
-        (simp length-drop (omega (arith, sized)))
+  words-are : fromWords (n f bytes) (H f bytes .words) ≡ take (wordCount * n f bytes) (drop (wordsAt f) bytes)
+  unfolding readIn
+  words-are =
+      fromWords-toWords wordCount (n f bytes) (drop (wordsAt f) bytes) (below-drop (wordsAt f) bytes all)
+      (simp length-drop (omega (arith, sized)))
 
-    tail-is : pending (H f bytes) ≡ drop (tailFrom f bytes) bytes
-    unfolding readIn
-    tail-is =
-        take-padded (drop (tailFrom f bytes) bytes) (leftIn f bytes) (omega (arith, tail-lt (H f bytes), block-within (editionIn bytes)))
-        (simp length-drop (omega (arith, sized)))
+  tail-is : pending (H f bytes) ≡ drop (tailFrom f bytes) bytes
+  unfolding readIn
+  tail-is =
+      take-padded (drop (tailFrom f bytes) bytes) (leftIn f bytes) (omega (arith, tail-lt (H f bytes), block-within (editionIn bytes)))
+      (simp length-drop (omega (arith, sized)))
 
-    made : recordIn f (H f bytes) ≡ bytes
-    unfolding recordIn readIn
-    made =
-        let m = wordCount * n f bytes in
-        let a = wordsAt f in
-        ap₂ _++_ front-is
-        (ap₂ _++_ words-are (tail-is ∙ sym (drop-drop m a bytes)) ∙ take-append-drop m (drop a bytes))
-        ∙ take-append-drop a bytes
+  made : recordIn f (H f bytes) ≡ bytes
+  unfolding recordIn readIn
+  made =
+      let m = wordCount * n f bytes in
+      let a = wordsAt f in
+      ap₂ _++_ front-is
+      (ap₂ _++_ words-are (tail-is ∙ sym (drop-drop m a bytes)) ∙ take-append-drop m (drop a bytes))
+      ∙ take-append-drop a bytes
 
-    keeps-record : isRecordIn f bytes ≡ true
-    unfolding isRecordIn
-    keeps-record = holds-on _ _ sound-read ∙ holds-last _ ∙ eq-same (recordIn f (H f bytes)) bytes made
+  pub form-keeps-record : isRecordIn f bytes ≡ true
+  unfolding isRecordIn
+  form-keeps-record = holds-on _ _ sound-read ∙ holds-last _ ∙ eq-same (recordIn f (H f bytes)) bytes made
 
-  pub form-record-rules : (isRecordIn f bytes ≡ true → Rules f bytes) × (Rules f bytes → isRecordIn f bytes ≡ true)
-  form-record-rules = (record-keeps, keeps-record)
+pub form-record-rules : (f : Form) → ((e : ℕ) → longestOf f e < 256 ^ numberBytes) → (bytes : List ℕ) → Bytes bytes →
+    (isRecordIn f bytes ≡ true → Rules f bytes) × (Rules f bytes → isRecordIn f bytes ≡ true)
+form-record-rules f fits bytes all = (form-record-keeps f fits bytes, form-keeps-record f bytes all)
 
 -- ---- how long a record is
 

@@ -1,7 +1,7 @@
 -- The record that is saved, by the numbers of SPEC, "The saved record" and "Limits". `record-rules`: bytes are a record exactly where they
 -- keep the rules; `load-rules`: and then they load. `record-places`, `tail-places` and `record-sizes`: where the fields stand.
 -- `record-longest`: a record has up to 119 or 215 bytes.
-use Prim.Native.Nat.{ℕ}
+use Prim.Native.Nat.{ℕ, _^_, _<_}
 use mathlib.Core.Bool.{true}
 use mathlib.Core.List.{List}
 use mathlib.Core.Path.{_≡_, refl, ap, subst, _∙_}
@@ -26,11 +26,15 @@ use Rattle.records.specs.Record.{tailLengthAt, wholeLengthAt, zerosAt, w
 use Rattle.records.specs.Rules.{Rules, Lengths, longestOf}
 use Rattle.records.proofs.load as load
 use Rattle.records.proofs.load.Reads as load-reads
-use Rattle.records.proofs.ByRules.{form-record-rules, form-lengths}
+use Rattle.records.proofs.ByRules.{form-record-keeps, form-keeps-record, form-record-rules, form-lengths}
+
+-- the longest record can say how long it is
+newest-fits : (e : ℕ) → longestOf newest e < 256 ^ numberBytes
+newest-fits e = omega (arith, bytes-within e)
 
 pub record-rules : (bytes : List ℕ) → Bytes bytes →
     (isRecord bytes ≡ true → Rules newest bytes) × (Rules newest bytes → isRecord bytes ≡ true)
-record-rules bytes all = form-record-rules newest (λ e. omega (arith, bytes-within e)) bytes all
+record-rules bytes all = form-record-rules newest newest-fits bytes all
 
 -- so, by the contract of the code, a load is done exactly where they are kept
 loads : (s : List ℕ) (r : Loaded) → Judged (loadTests s) blank (loaded s) (numberOf (r .answer)) (r .half) →
@@ -41,14 +45,13 @@ loads s r j = (
   λ e. number-injective (r .answer) Answer.Done (j .answer ∙ rw e),
 )
 
-pub load-rules : (m : Made load.ended load-reads.Learnt) → Bytes (now (m .args .0)) →
+pub load-rules : (m : Made load.ended load-reads.Learnt) →
     (m .result .answer ≡ Answer.Done → Rules newest (now (m .args .0)))
-    × (Rules newest (now (m .args .0)) → m .result .answer ≡ Answer.Done)
-load-rules m all =
+    × (Bytes (now (m .args .0)) → Rules newest (now (m .args .0)) → m .result .answer ≡ Answer.Done)
+load-rules m =
     let s = now (m .args .0) in
     let done = loads s (m .result) (m .learnt) in
-    let rules = record-rules s all in
-    (λ d. rules .0 (done .0 d), λ r. done .1 (rules .1 r))
+    (λ d. form-record-keeps newest newest-fits s (done .0 d), λ all r. done .1 (form-keeps-record newest s all r))
 
 -- the first column of SPEC's table: edition, count of words, words at, tail at, count, tail length, whole length, spare, words
 pub record-places : (editionAt ≡ 0) × (wordCountAt ≡ 2) × (wordsFieldAt ≡ 4) × (tailFieldAt ≡ 6) × (countAt ≡ 8)
