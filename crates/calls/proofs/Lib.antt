@@ -5,3 +5,4 @@ pub mod Runs
 pub mod Records
 pub mod NoBytes
 pub mod Words
+pub mod SaveLoad

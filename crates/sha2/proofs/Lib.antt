@@ -8,3 +8,4 @@ pub mod AtOnce
 pub mod Last
 pub mod Finished
 pub mod Settled
+pub mod Standard

@@ -1,0 +1,19 @@
+-- `hash-standard`: a hash at once that is answered Done leaves the standard's digest at the front of the output, and what was there behind
+-- it. It is said of calls of the function, by its own contract.
+use mathlib.Core.Path.{_≡_}
+use denote.Ref.{now}
+use Rattle.contracts.specs.Says.{Made, exit}
+use Rattle.answers.specs.declared.Answer.{Answer}
+use Rattle.answers.proofs.Refusals.{done-leaves}
+use Rattle.slices.specs.AtFront.{atFront}
+use Rattle.fips.specs.Editions.{digest}
+use Rattle.fips.specs.Message.{message}
+use Rattle.sha2.specs.Hash.{hashed}
+use Rattle.sha2.proofs.hash.hash as hash
+use Rattle.sha2.proofs.hash.hash.Reads as hash-reads
+
+pub hash-standard : (m : Made hash.ended hash-reads.Learnt) → m .result ≡ Answer.Done →
+    now (exit m .1 .1 .1 .1 .0)
+    ≡ atFront (digest (m .args .0) (message (now (m .args .1 .0)) (m .args .1 .1 .0) (m .args .1 .1 .1 .0))) (now (m .args .1 .1 .1 .1 .0))
+unfolding hashed
+hash-standard m e = done-leaves (m .learnt) e
