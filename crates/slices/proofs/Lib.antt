@@ -4,5 +4,6 @@ pub mod Tests
 pub mod AtFront
 pub mod Fill
 pub mod Parts
+pub mod LiesAt
 pub mod Blocks
 pub mod Settled

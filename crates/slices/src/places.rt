@@ -9,12 +9,16 @@ pub fn least(a: usize, b: usize) -> usize
     if a < b { a } else { b }
 }
 
-// So many bytes from a place on, as far as the bytes go.
+// So many bytes from a place on, as far as the bytes go. They are those of the slice itself, where they lie; of no bytes, its beginning.
 pub fn part(s: &[u8], at: usize, n: usize) -> &[u8]
     ensures { λ r. ⌜ now r ≡ Parts.part (now (s .entry)) at n ⌝ }
+    ensures { λ r. ⌜ Parts.LiesAt r (s .entry) at ⌝ }
 {
     let start = least(at, s.len());
     let end = start + least(n, s.len() - start);
+    if start == end {
+        return &s[..0];
+    }
     &s[start..end]
 }
 

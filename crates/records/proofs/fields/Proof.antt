@@ -27,8 +27,8 @@ returns c =
     let byte : (i : ℕ) → Fits u8 (getD (s .args .bytes .now) i 0) = λ i. g .before .shared-slice-known .given i in
     fields-law newest (omega arith) (s .args .bytes .now) (λ i. byte i .fits) (g .field .ensures) (g2 .field2 .ensures)
     (b .block-bytes .ensures)
-    (w .get-words .ensures ∙ ap (λ (l : List ℕ). map word64 (toWords wordCount (b .block-bytes .result / 16) l)) (p .part .ensures))
-    (t .tail-at .ensures) (c .padded .ensures ∙ ap padded (c .before .part2 .ensures))
+    (w .get-words .ensures ∙ ap (λ (l : List ℕ). map word64 (toWords wordCount (b .block-bytes .result / 16) l)) (p .part .ensures .0))
+    (t .tail-at .ensures) (c .padded .ensures ∙ ap padded (c .before .part2 .ensures .0))
 
 pub fields-spec : {M : Type 1} → statement M
 fields-spec =
