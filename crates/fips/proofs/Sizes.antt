@@ -1,42 +1,75 @@
--- What the edition lookup answers, and what every crate above may know of an edition: laws of specs/Sizes.antt.
+-- What the edition lookup answers, and what every crate above may know of an edition: laws of specs/Sizes.antt. Number and sizes settle the
+-- case that is answered, `sizes-same`, and it is `sizesOf`: `sized-is`, `is-sized`.
 -- An edition's number is below 2^16, `known-small`; every number has one of two widths, `width-of`; a block has some bytes, at most 128,
 -- `block-some` and `block-within`.
 use Prim.Native.Nat.{ℕ, _^_, _≤_, _<_}
-use mathlib.Core.Bool.{Bool, true, false, cond}
+use mathlib.Core.Bool.{Bool, true, false, cond, not}
+use mathlib.Core.List.{[], _∷_}
 use mathlib.Core.Logic.{⊎-elim}
-use mathlib.Core.Path.{_≡_, refl, sym, ap, _∙_}
+use mathlib.Core.Path.{_≡_, refl, sym, ap, subst, _∙_}
 use native.Mathlib.Omega.{arith}
 use lib.Dec.{eqb}
+use Rattle.answers.proofs.Outcome.{outcome-settled}
+use Rattle.answers.specs.Judged.{_when_, first, Judged}
 use Rattle.fips.specs.declared.lookup.EditionSizes.{EditionSizes}
 use Rattle.fips.specs.Words.{Width, w32, w64, word, blockBytes}
 use Rattle.fips.specs.Editions.{Edition, known, width, digestBytes}
-use Rattle.fips.specs.Sizes.{sizesOf, isNarrow, widthOf}
+use Rattle.fips.specs.Sizes.{Sizes, sizes, noSizes, sizesNumber, sizesTold, Sized, isNarrow, widthOf}
 use Rattle.fips.proofs.Editions.{within-known, width-cases, width-some, edition-none, digest-none, digest-some}
 
 -- ---- the lookup
 
--- what the lookup says of an edition, and that it refuses the others
-pub sizes-known : (e w b d : ℕ) → sizesOf e ≡ EditionSizes.Known w b d →
-    (known e ≡ true) × (w ≡ word (width e)) × (b ≡ blockBytes (width e)) × (d ≡ digestBytes e)
-unfolding sizesOf
-sizes-known e w b d p = go (known e) refl p
-  where
-    go : (k : Bool) → known e ≡ k →
-        cond k (EditionSizes.Known (word (width e)) (blockBytes (width e)) (digestBytes e)) EditionSizes.Unknown
-        ≡ EditionSizes.Known w b d →
-        (known e ≡ true) × (w ≡ word (width e)) × (b ≡ blockBytes (width e)) × (d ≡ digestBytes e)
-    go true q r = (q, (cc), (cc), (cc))
-    go false q r = let z : _≡_ {A = ℕ} 0 1 = cc in absurd (omega arith)
+-- the case that it answers
+unfoldable pub sizesOf : ℕ → EditionSizes
+sizesOf e =
+    cond (known e) (EditionSizes.Known (word (width e)) (blockBytes (width e)) (digestBytes e)) EditionSizes.Unknown
 
-pub sizes-unknown : (e : ℕ) → sizesOf e ≡ EditionSizes.Unknown → known e ≡ false
-unfolding sizesOf
-sizes-unknown e p = go (known e) refl p
+sized-of : (e : ℕ) → Sized e (sizesNumber (sizesOf e)) (sizesTold (sizesOf e))
+unfolding sizesOf first
+sized-of e = go (known e)
+  where
+    go : (k : Bool) →
+        let r = cond k (EditionSizes.Known (word (width e)) (blockBytes (width e)) (digestBytes e)) EditionSizes.Unknown in
+        Judged (5 when not k ∷ []) noSizes (sizes (word (width e)) (blockBytes (width e)) (digestBytes e)) (sizesNumber r) (sizesTold r)
+    go true = record { answer = refl; leaves = refl }
+    go false = record { answer = refl; leaves = refl }
+
+pub is-sized : (e : ℕ) (r : EditionSizes) → r ≡ sizesOf e → Sized e (sizesNumber r) (sizesTold r)
+is-sized e r p = subst (λ (x : EditionSizes). Sized e (sizesNumber x) (sizesTold x)) (sym p) (sized-of e)
+
+-- number and sizes settle the case
+same-case : (r s : EditionSizes) → sizesNumber r ≡ sizesNumber s → sizesTold r ≡ sizesTold s → r ≡ s
+same-case (EditionSizes.Known w b d) (EditionSizes.Known x c g) n t = λ i. EditionSizes.Known (t i .word) (t i .block) (t i .digest)
+same-case (EditionSizes.Known w b d) EditionSizes.Unknown n t = absurd (omega arith)
+same-case EditionSizes.Unknown (EditionSizes.Known w b d) n t = absurd (omega arith)
+same-case EditionSizes.Unknown EditionSizes.Unknown n t = refl
+
+pub sizes-same : (e : ℕ) (r s : EditionSizes) → Sized e (sizesNumber r) (sizesTold r) → Sized e (sizesNumber s) (sizesTold s) → r ≡ s
+sizes-same e r s j k = let o = outcome-settled j k in same-case r s (o .0) (o .1)
+
+pub sized-is : (e : ℕ) (r : EditionSizes) → Sized e (sizesNumber r) (sizesTold r) → r ≡ sizesOf e
+sized-is e r j = sizes-same e r (sizesOf e) j (sized-of e)
+
+-- what the lookup says of an edition, and that it refuses the others
+pub sizes-known : (e : ℕ) {r : EditionSizes} {w b d : ℕ} → Sized e (sizesNumber r) (sizesTold r) → r ≡ EditionSizes.Known w b d →
+    (known e ≡ true) × (w ≡ word (width e)) × (b ≡ blockBytes (width e)) × (d ≡ digestBytes e)
+unfolding first
+sizes-known e {w = w} {b = b} {d = d} j p =
+    go (known e) refl (subst (λ (x : EditionSizes). Sized e (sizesNumber x) (sizesTold x)) p j)
   where
     go : (k : Bool) → known e ≡ k →
-        cond k (EditionSizes.Known (word (width e)) (blockBytes (width e)) (digestBytes e)) EditionSizes.Unknown ≡ EditionSizes.Unknown →
-        known e ≡ false
-    go true q r = let z : _≡_ {A = ℕ} 0 1 = cc in absurd (omega arith)
-    go false q r = q
+        Judged (5 when not k ∷ []) noSizes (sizes (word (width e)) (blockBytes (width e)) (digestBytes e)) 0 (sizes w b d) →
+        (known e ≡ true) × (w ≡ word (width e)) × (b ≡ blockBytes (width e)) × (d ≡ digestBytes e)
+    go true q i = let t = i .leaves in (q, ap (λ (x : Sizes). x .word) t, ap (λ (x : Sizes). x .block) t, ap (λ (x : Sizes). x .digest) t)
+    go false q i = absurd (omega (arith, i .answer))
+
+pub sizes-unknown : (e : ℕ) {r : EditionSizes} → Sized e (sizesNumber r) (sizesTold r) → r ≡ EditionSizes.Unknown → known e ≡ false
+unfolding first
+sizes-unknown e j p = go (known e) refl (ap sizesNumber (sym p) ∙ j .answer)
+  where
+    go : (k : Bool) → known e ≡ k → 5 ≡ first (5 when not k ∷ []) → known e ≡ false
+    go true q i = absurd (omega arith)
+    go false q i = q
 
 pub narrow-word : (e w : ℕ) → w ≡ word (width e) → eqb w 32 ≡ isNarrow e
 unfolding isNarrow

@@ -3,9 +3,9 @@
 ghost use mathlib.Core.Path.{_≡_};
 ghost use Rattle.fips.specs.Words.{blockBytes};
 ghost use Rattle.fips.specs.Editions.{known, width, digestBytes};
-ghost use Rattle.fips.specs.Sizes.{sizesOf, isNarrow, widthOf};
+ghost use Rattle.fips.specs.Sizes.{sizesNumber, sizesTold, Sized, isNarrow, widthOf};
 
-// An edition's sizes, or that no edition has the number.
+// An edition's sizes, or that no edition has the number: 5.
 pub enum EditionSizes {
     Known { word: u64, block: u64, digest: u64 },
     Unknown,
@@ -13,7 +13,7 @@ pub enum EditionSizes {
 
 // SPEC, "Editions": the bits of a word, the bytes of a block and of a digest.
 pub fn sizes(edition: u64) -> EditionSizes
-    ensures { λ r. ⌜ r ≡ sizesOf edition ⌝ }
+    ensures { λ r. ⌜ Sized edition (sizesNumber r) (sizesTold r) ⌝ }
 {
     match edition {
         1 => EditionSizes::Known {

@@ -1,5 +1,5 @@
 -- `fips::lookup::narrow` meets its contract: the lookup tells the bits of a word. Assumes nothing.
-use mathlib.Core.Path.{sym, _∙_}
+use mathlib.Core.Path.{sym}
 use borrow.Author.Needs.{needs}
 use Rattle.fips.proofs.Sizes.{sizes-known, sizes-unknown, narrow-word, narrow-none}
 use Rattle.fips.proofs.lookup.narrow.Statement.{statement}
@@ -9,12 +9,12 @@ returns : tie.Need-returns
 returns c =
     let e = c .before .before .before .before .args .edition in
     let told = c .before .word .given in
-    narrow-word e _ (sizes-known e _ _ _ (sym (c .before .before .before .sizes .ensures) ∙ told .1) .1)
+    narrow-word e _ (sizes-known e (c .before .before .before .sizes .ensures) (told .1) .1)
 
 returns-2 : tie.Need-returns-2
 returns-2 c =
     let e = c .before .before .before .args .edition in
-    sym (narrow-none e (sizes-unknown e (sym (c .before .before .sizes .ensures) ∙ c .enum-told .given .1)))
+    sym (narrow-none e (sizes-unknown e (c .before .before .sizes .ensures) (c .enum-told .given .1)))
 
 pub narrow-spec : {M : Type 1} → statement M
 narrow-spec = tie.close (tie.spec (λ c κs. search needs) (λ c. search needs) (λ c. search needs) returns returns-2)
