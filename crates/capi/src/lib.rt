@@ -4,10 +4,9 @@ ghost use mathlib.Core.List.{[]};
 ghost use mathlib.Core.Path.{_≡_};
 ghost use Rattle.answers.specs.Judged.{first};
 ghost use Rattle.calls.specs.Calls.{Call, told, Lends, Outcome, Asks};
-ghost use Rattle.lists.specs.Calls.{found, judgeTests};
+ghost use Rattle.lists.specs.Calls.{spot, Finds, judgeTests};
 ghost use Rattle.sha2.specs.Hash.{Hashes};
 ghost use Rattle.tree.specs.Tree.{Trees};
-ghost use Rattle.capi.specs.Lookup.{foundNumber, foundAt, foundLength};
 use lists::Found;
 
 #[no_mangle]
@@ -117,9 +116,7 @@ pub extern "C" fn dw_judge(list: &[u8], name: &[u8], digest: &[u8]) -> u64
 // Place and length of the part are written in every case: both 0 where it is empty.
 #[no_mangle]
 pub extern "C" fn dw_lookup(list: &[u8], name: &[u8], at: &mut usize, len: &mut usize) -> u64
-    ensures { λ r. ⌜ r ≡ foundNumber (found (now (list .entry)) (now (name .entry))) ⌝ }
-    ensures { λ r. ⌜ now (at .exit) ≡ foundAt (found (now (list .entry)) (now (name .entry))) ⌝ }
-    ensures { λ r. ⌜ now (len .exit) ≡ foundLength (found (now (list .entry)) (now (name .entry))) ⌝ }
+    ensures { λ r. ⌜ Finds (now (list .entry)) (now (name .entry)) r (spot (now (at .exit)) (now (len .exit))) ⌝ }
 {
     match lists::find(list, name) {
         Found::At { start, len: count } => {

@@ -1,4 +1,5 @@
--- Entries by number: `pair-at`, where the bytes of the i-th pair stand, and `no-pair`, that there is none behind the last.
+-- Entries by number: `pair-at`, where the bytes of the i-th pair stand, by `name-place` and `digest-place`, and `no-pair`, that there is
+-- none behind the last.
 use mathlib.Core.List.{List, []}
 use mathlib.Core.Path.{_≡_, refl, sym, ap, _∙_}
 use Prim.Native.Nat.{ℕ, zero, suc, _+_, _*_, _^_, _<_, _≤_}
@@ -10,7 +11,7 @@ use Rattle.bigendian.proofs.RowLaws.{field-lt}
 use Rattle.fips.proofs.Editions.{digest-short}
 use Rattle.slices.specs.Below.{Bytes}
 use Rattle.slices.specs.Parts.{part}
-use Rattle.lists.specs.Calls.{pairIn}
+use Rattle.lists.specs.Calls.{pairIn, placeOfEntry, placeOfName, placeOfDigest}
 use Rattle.lists.specs.Layout.{numberSize, countAt, entriesAt, entryHead, entrySize, editionIn, countIn, digestSizeIn}
 use Rattle.lists.specs.Layout.{nameOffset, nameLength, pairAt, readPairs, readList}
 use Rattle.lists.specs.Lists.{Pair}
@@ -38,7 +39,7 @@ unfolding pairIn readList
 no-pair i bs h = none-on (countIn bs) (digestSizeIn bs) i (drop entriesAt bs) bs (record { name = []; digest = [] }) h
 
 pub pair-at : (i : ℕ) (bs : List ℕ) → i < countIn bs →
-    pairIn i bs ≡ pairAt (digestSizeIn bs) (drop (entriesAt + i * entrySize (digestSizeIn bs)) bs) bs
+    pairIn i bs ≡ pairAt (digestSizeIn bs) (drop (placeOfEntry i bs) bs) bs
 unfolding pairIn readList
 pair-at i bs h =
     let d = digestSizeIn bs in
@@ -59,13 +60,19 @@ module _ (bs : List ℕ) (i : ℕ) (h : i < countIn bs) where
       mul-le-mul {n₂ = 256 ^ numberSize} {m₂ = entrySize 64} (omega (arith, field-lt bs countAt numberSize b))
       (omega (arith, digest-short (editionIn bs)))
 
-  module _ (at : ℕ) (e : at ≡ entriesAt + i * entrySize (digestSizeIn bs)) where
+  module _ (at : ℕ) (e : at ≡ placeOfEntry i bs) where
     here : pairIn i bs ≡ pairAt (digestSizeIn bs) (drop at bs) bs
     here = rw e (pair-at i bs h)
 
     pub name-at : (p : List ℕ) (from len : ℕ) → from ≡ nameOffset (drop at bs) → len ≡ nameLength (drop at bs) → p ≡ part bs from len →
         p ≡ pairIn i bs .name
     name-at p from len pf pl q = q ∙ rw (pf, pl) (sym (ap (λ (r : Pair). r .name) here))
+
+    pub name-place : (from : ℕ) → from ≡ nameOffset (drop at bs) → from ≡ placeOfName i bs
+    name-place from pf = pf ∙ ap (λ (k : ℕ). nameOffset (drop k bs)) e
+
+    pub digest-place : at + entryHead ≡ placeOfDigest i bs
+    digest-place = ap (λ (k : ℕ). k + entryHead) e
 
     pub digest-at : (p : List ℕ) (d : ℕ) → d ≡ digestSizeIn bs → p ≡ part bs (at + entryHead) d → p ≡ pairIn i bs .digest
     digest-at p d pd q = q ∙ rw (pd, ← drop-drop entryHead at bs) (sym (ap (λ (r : Pair). r .digest) here))

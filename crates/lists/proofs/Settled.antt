@@ -1,48 +1,59 @@
--- Settled: two results that a public function's statement allows coincide.
--- Nothing is lent to be written, so an outcome is the answer: of `lookup` the bytes handed back, of `find` the place too.
--- A part of the list that is handed back is its bytes here too, for `name` and `digest` of the entries by number.
-use mathlib.Core.Bool.{Bool}
+-- Settled: two results that a public function's own contract allows coincide. `Learnt` is that contract, made from src.
+-- Nothing is lent to be written, so an outcome is the answer. Of a part of the list that is handed back it is the bytes, and the block and
+-- the offset where they lie.
 use mathlib.Core.List.{List}
-use mathlib.Core.Path.{_≡_, sym, _∙_}
 use Prim.Native.Nat.{ℕ}
+use denote.Ref.{now}
+use Rattle.contracts.specs.Says.{Settles}
+use Rattle.contracts.proofs.Values.{value-settled}
 use Rattle.answers.proofs.Outcome.{number-injective}
-use Rattle.answers.specs.declared.Answer.{Answer}
-use Rattle.answers.specs.Judged.{first}
-use Rattle.answers.specs.Numbers.{numberOf}
-use Rattle.lists.specs.declared.Found.{Found}
-use Rattle.lists.specs.Calls.{listedDigest, found, pairIn, judgeTests}
-use Rattle.lists.specs.Order.{before}
-use Rattle.lists.specs.Layout.{editionIn, countIn, accepted}
+use Rattle.slices.proofs.LiesAt.{lies-settled}
+use Rattle.lists.proofs.Places.{find-same}
+use Rattle.lists.proofs.is_list as is-list
+use Rattle.lists.proofs.is_list.Reads as is-list-reads
+use Rattle.lists.proofs.find as find
+use Rattle.lists.proofs.find.Reads as find-reads
+use Rattle.lists.proofs.lookup as lookup
+use Rattle.lists.proofs.lookup.Reads as lookup-reads
+use Rattle.lists.proofs.judge as judge
+use Rattle.lists.proofs.judge.Reads as judge-reads
+use Rattle.lists.proofs.entries.edition as edition
+use Rattle.lists.proofs.entries.edition.Reads as edition-reads
+use Rattle.lists.proofs.entries.count as count
+use Rattle.lists.proofs.entries.count.Reads as count-reads
+use Rattle.lists.proofs.entries.name as name
+use Rattle.lists.proofs.entries.name.Reads as name-reads
+use Rattle.lists.proofs.entries.digest as digest
+use Rattle.lists.proofs.entries.digest.Reads as digest-reads
+use Rattle.lists.proofs.order.before as before
+use Rattle.lists.proofs.order.before.Reads as before-reads
 
-module _ (list name : List ℕ) where
-  pub find-settled : (r s : Found) → r ≡ found list name → s ≡ found list name → r ≡ s
-  find-settled r s p q = p ∙ sym q
+pub is-list-settled : Settles is-list.ended is-list-reads.Learnt (λ κs r x. r)
+is-list-settled κs a r s x y = value-settled
 
-  pub lookup-settled : (r s : List ℕ) → r ≡ listedDigest list name → s ≡ listedDigest list name → r ≡ s
-  lookup-settled r s p q = p ∙ sym q
+-- the case and its values, which its number and the place settle
+pub find-settled : Settles find.ended find-reads.Learnt (λ κs r x. r)
+find-settled κs a r s x y = find-same _ _ r s
 
-  pub judge-settled : (digest : List ℕ) (r s : Answer) →
-      numberOf r ≡ first (judgeTests list name digest) → numberOf s ≡ first (judgeTests list name digest) → r ≡ s
-  judge-settled digest r s p q = number-injective r s (p ∙ sym q)
+pub lookup-settled : Settles {A = List ℕ × (ℕ × ℕ)} lookup.ended lookup-reads.Learnt (λ κs r x. (now r, r .ptr))
+lookup-settled κs a r s x y = lies-settled
+
+pub judge-settled : Settles judge.ended judge-reads.Learnt (λ κs r x. r)
+judge-settled κs a r s x y p q = number-injective r s (value-settled p q)
 
 -- ---- the entries by number, and names compared
 
-module _ (list : List ℕ) where
-  pub is-list-settled : (r s : Bool) → r ≡ accepted list → s ≡ accepted list → r ≡ s
-  is-list-settled r s p q = p ∙ sym q
+pub edition-settled : Settles edition.ended edition-reads.Learnt (λ κs r x. r)
+edition-settled κs a r s x y = value-settled
 
-  pub edition-settled : (r s : ℕ) → r ≡ editionIn list → s ≡ editionIn list → r ≡ s
-  edition-settled r s p q = p ∙ sym q
+pub count-settled : Settles count.ended count-reads.Learnt (λ κs r x. r)
+count-settled κs a r s x y = value-settled
 
-  pub count-settled : (r s : ℕ) → r ≡ countIn list → s ≡ countIn list → r ≡ s
-  count-settled r s p q = p ∙ sym q
+pub name-settled : Settles {A = List ℕ × (ℕ × ℕ)} name.ended name-reads.Learnt (λ κs r x. (now r, r .ptr))
+name-settled κs a r s x y = lies-settled
 
-  pub name-settled : (i : ℕ) (r s : List ℕ) → r ≡ pairIn i list .name → s ≡ pairIn i list .name → r ≡ s
-  name-settled i r s p q = p ∙ sym q
+pub digest-settled : Settles {A = List ℕ × (ℕ × ℕ)} digest.ended digest-reads.Learnt (λ κs r x. (now r, r .ptr))
+digest-settled κs a r s x y = lies-settled
 
-  pub digest-settled : (i : ℕ) (r s : List ℕ) → r ≡ pairIn i list .digest → s ≡ pairIn i list .digest → r ≡ s
-  digest-settled i r s p q = p ∙ sym q
-
-module _ (a b : List ℕ) where
-  pub before-settled : (r s : Bool) → r ≡ before a b → s ≡ before a b → r ≡ s
-  before-settled r s p q = p ∙ sym q
+pub before-settled : Settles before.ended before-reads.Learnt (λ κs r x. r)
+before-settled κs a r s x y = value-settled

@@ -1,9 +1,9 @@
 -- A walk over the entries by their place in the list: laws of `entriesRight` and `readPairs` where the entries left start at an offset.
 -- `entry-field` reads a number of an entry; `entries-on` and `entries-stop` take one entry; `entry-fits` bounds its name; `place-on`
 -- compares it with a name that is looked for; `one-less` counts the entries left.
-use mathlib.Core.Bool.{true, false, cond}
+use mathlib.Core.Bool.{Bool, true, false, cond}
 use mathlib.Core.List.{List}
-use mathlib.Core.Path.{_≡_}
+use mathlib.Core.Path.{_≡_, refl}
 use Prim.Native.Nat.{ℕ, suc, _+_, _-_, _*_, _<_, _≤_}
 use native.Mathlib.Nat.{suc-mul}
 use native.Mathlib.Omega.{arith}
@@ -11,13 +11,15 @@ use lib.ListN.{length, drop}
 use lib.Seq.{drop-drop}
 use Rattle.bigendian.specs.Rows.{fieldIn}
 use Rattle.lists.specs.declared.Found.{Found}
-use Rattle.lists.specs.Calls.{placeIn}
+use Rattle.lists.specs.Calls.{listed, placeIn}
 use Rattle.slices.specs.Parts.{part}
 use Rattle.slices.specs.Tests.{same}
+use Rattle.lists.specs.Lists.{Pair}
 use Rattle.lists.specs.Layout.{entryHead, entrySize, nameLength, readPairs}
 use Rattle.lists.specs.code.Rules.{entryRight, entriesRight}
 use Rattle.slices.proofs.Tests.{cond-both}
 use Rattle.lists.proofs.ByRules.{right-entry}
+use Rattle.lists.proofs.Places.{foundIn}
 
 -- a place in the entry is one in the list
 pub entry-field : (bs : List ℕ) (at place n : ℕ) → fieldIn bs (at + place) n ≡ fieldIn (drop at bs) place n
@@ -54,19 +56,27 @@ pub entry-fits : (at next : ℕ) (last bs : List ℕ) (len : ℕ) → len ≡ na
     len ≤ length bs - next
 entry-fits at next last bs len p e = rw p (right-entry last next (drop at bs) bs e .within)
 
+here-or-on : (s l : Bool) (here further d : ℕ) →
+    cond (cond s true l) (Found.At (cond s here further) d) Found.NotListed
+    ≡ cond s (Found.At here d) (cond l (Found.At further d) Found.NotListed)
+here-or-on true l here further d = refl
+here-or-on false l here further d = refl
+
 -- the first of the pairs left is the one whose name stands at `next`
 pub place-on : (m i d at next : ℕ) (name last bs : List ℕ) → i < m → (len : ℕ) → len ≡ nameLength (drop at bs) →
     entryRight last next (drop at bs) bs ≡ true →
-    placeIn name d at (readPairs (m - i) d (drop at bs) bs)
+    foundIn name d at (readPairs (m - i) d (drop at bs) bs)
     ≡ cond (same (part bs next len) name) (Found.At (at + entryHead) d)
-    (placeIn name d (at + entrySize d) (readPairs (m - (i + 1)) d (drop (at + entrySize d) bs) bs))
-unfolding placeIn readPairs
+    (foundIn name d (at + entrySize d) (readPairs (m - (i + 1)) d (drop (at + entrySize d) bs) bs))
+unfolding listed placeIn readPairs
 place-on m i d at next name last bs h len p e =
     let s : m - i ≡ suc (m - (i + 1)) = omega arith in
+    let rest : List Pair = readPairs (m - (i + 1)) d (drop (at + entrySize d) bs) bs in
     rw (s, right-entry last next (drop at bs) bs e .offset, ← p, drop-drop (entrySize d) at bs)
+    (here-or-on (same (part bs next len) name) (listed name rest) (at + entryHead) (placeIn name d (at + entrySize d) rest) d)
 
-pub place-over : (m i d at : ℕ) (name bs : List ℕ) → m ≤ i → placeIn name d at (readPairs (m - i) d (drop at bs) bs) ≡ Found.NotListed
-unfolding placeIn readPairs
+pub place-over : (m i d at : ℕ) (name bs : List ℕ) → m ≤ i → foundIn name d at (readPairs (m - i) d (drop at bs) bs) ≡ Found.NotListed
+unfolding listed placeIn readPairs
 place-over m i d at name bs h =
     let s : m - i ≡ 0 = omega arith in
     rw s

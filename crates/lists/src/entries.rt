@@ -4,9 +4,10 @@ use crate::fields;
 use crate::fields::number;
 use slices::places::part;
 ghost use mathlib.Core.Path.{_≡_};
-ghost use Prim.Native.Nat.{_+_, _*_, _^_, _<_};
-ghost use Rattle.lists.specs.Layout.{entriesAt, entrySize, editionIn, countIn, digestSizeIn};
-ghost use Rattle.lists.specs.Calls.{pairIn};
+ghost use Prim.Native.Nat.{_^_, _<_};
+ghost use Rattle.lists.specs.Layout.{editionIn, countIn, digestSizeIn};
+ghost use Rattle.slices.specs.Parts.{LiesAt};
+ghost use Rattle.lists.specs.Calls.{pairIn, placeOfEntry, placeOfName, placeOfDigest};
 
 pub fn edition(list: &[u8]) -> u64
     ensures { λ r. ⌜ r ≡ editionIn (now (list .entry)) ⌝ }
@@ -29,17 +30,18 @@ pub(crate) fn digest_size(list: &[u8]) -> usize
 // Where an entry begins. The count is a number of two bytes, so this is no large number.
 fn entry_at(list: &[u8], i: usize) -> usize
     requires { ⌜ i < countIn (now list) ⌝ }
-    ensures { λ r. ⌜ (r ≡ entriesAt + i * entrySize (digestSizeIn (now (list .entry)))) × (r < 2 ^ 32) ⌝ }
+    ensures { λ r. ⌜ (r ≡ placeOfEntry i (now (list .entry))) × (r < 2 ^ 32) ⌝ }
 {
     fields::ENTRIES_AT + i * (fields::ENTRY_HEAD + digest_size(list))
 }
 
-// Names are counted from 0; behind the last the part is empty.
+// Names are counted from 0; behind the last the part is empty. An empty part lies at the list's beginning.
 pub fn name(list: &[u8], i: usize) -> &[u8]
     ensures { λ r. ⌜ now r ≡ pairIn i (now (list .entry)) .name ⌝ }
+    ensures { λ r. ⌜ LiesAt r (list .entry) (placeOfName i (now (list .entry))) ⌝ }
 {
     if count(list) <= i {
-        return &list[0..0];
+        return &list[..0];
     }
     let at = entry_at(list, i);
     part(
@@ -51,9 +53,10 @@ pub fn name(list: &[u8], i: usize) -> &[u8]
 
 pub fn digest(list: &[u8], i: usize) -> &[u8]
     ensures { λ r. ⌜ now r ≡ pairIn i (now (list .entry)) .digest ⌝ }
+    ensures { λ r. ⌜ LiesAt r (list .entry) (placeOfDigest i (now (list .entry))) ⌝ }
 {
     if count(list) <= i {
-        return &list[0..0];
+        return &list[..0];
     }
     let at = entry_at(list, i);
     part(list, at + fields::ENTRY_HEAD, digest_size(list))

@@ -12,20 +12,21 @@ use slices::same::same_bytes;
 ghost use mathlib.Core.Path.{_≡_};
 ghost use Rattle.answers.specs.Judged.{first};
 ghost use Rattle.answers.specs.Numbers.{numberOf};
-ghost use Rattle.lists.specs.Calls.{listedDigest, found, judgeTests};
+ghost use Rattle.slices.specs.Parts.{LiesAt};
+ghost use Rattle.lists.specs.Calls.{listedDigest, listedPlace, foundNumber, foundSpot, Finds, judgeTests};
 ghost use Rattle.lists.specs.Layout.{accepted};
 
 // No list is longer: the header, and the most entries, with digests of 64 bytes and the longest names.
 pub const LONGEST: usize = fields::ENTRIES_AT
     + rules::MOST_ENTRIES * (fields::ENTRY_HEAD + 64 + names::LONGEST);
 
-// What looking for a name finds.
+// What looking for a name finds, with its number.
 pub enum Found {
-    // its digest: where it starts in the list, and how long it is
+    // 0: its digest: where it starts in the list, and how long it is
     At { start: usize, len: usize },
-    // no entry has the name
+    // 13: no entry has the name
     NotListed,
-    // the bytes are no digest list
+    // 12: the bytes are no digest list
     NotAList,
 }
 
@@ -45,7 +46,7 @@ pub fn is_list(list: &[u8]) -> bool
 
 // In a list each name starts where the last one ends, so only its length is read.
 pub fn find(list: &[u8], name: &[u8]) -> Found
-    ensures { λ r. ⌜ r ≡ found (now (list .entry)) (now (name .entry)) ⌝ }
+    ensures { λ r. ⌜ Finds (now (list .entry)) (now (name .entry)) (foundNumber r) (foundSpot r) ⌝ }
 {
     if !is_list(list) {
         return Found::NotAList;
@@ -69,9 +70,10 @@ pub fn find(list: &[u8], name: &[u8]) -> Found
     Found::NotListed
 }
 
-// The digest of the name, lent out of the list; empty where `find` finds none.
+// The digest of the name, lent out of the list where it lies there; empty where `find` finds none, and then at the list's beginning.
 pub fn lookup<'a, 'b>(list: &'a [u8], name: &'b [u8]) -> &'a [u8]
     ensures { λ r. ⌜ now r ≡ listedDigest (now (list .entry)) (now (name .entry)) ⌝ }
+    ensures { λ r. ⌜ LiesAt r (list .entry) (listedPlace (now (list .entry)) (now (name .entry))) ⌝ }
 {
     match find(list, name) {
         Found::At { start, len } => part(list, start, len),

@@ -1,7 +1,7 @@
 -- Where a part that is handed back lies: a part with some bytes at its place, `lies-there`, one with none at the beginning, `lies-first`.
 -- Two parts that one statement allows are the same bytes at the same place: `lies-settled`.
 use mathlib.Core.List.{List, [], _∷_}
-use mathlib.Core.Path.{_≡_, refl, sym, ap, _∙_}
+use mathlib.Core.Path.{_≡_, refl, sym, ap, subst, _∙_}
 use Prim.Native.Nat.{ℕ, _+_, _<_}
 use native.Mathlib.Nat.{add-zero, add-comm}
 use native.Mathlib.Omega.{arith}
@@ -26,6 +26,10 @@ module _ {r s : RefT (List ℕ)} {at : ℕ} (same : r .ptr .0 ≡ s .ptr .0) whe
     block = same;
     offset = e ∙ sym (add-zero (s .ptr .1)) ∙ ap (λ (l : List ℕ). s .ptr .1 + begins l at) (sym n);
   }
+
+-- the place by another name
+pub lies-also : {r s : RefT (List ℕ)} {at place : ℕ} → at ≡ place → LiesAt r s at → LiesAt r s place
+lies-also {r = r} {s = s} e l = subst (LiesAt r s) e l
 
 pub lies-settled : {r t s : RefT (List ℕ)} {at : ℕ} {bs : List ℕ} → (now r ≡ bs) × LiesAt r s at → (now t ≡ bs) × LiesAt t s at →
     _≡_ {A = List ℕ × (ℕ × ℕ)} (now r, r .ptr) (now t, t .ptr)

@@ -12,7 +12,7 @@ returns c =
     let last = c .before .before in
     let name = last .before .before .before .before .before in
     let first = name .before .before .before .before .before in
-    then _ _ _ _ (then _ _ _ _ (first .verdict-word .ensures) (renamed _ _ _ _ (name .before .name .ensures) (name .append .ensures)))
+    then _ _ _ _ (then _ _ _ _ (first .verdict-word .ensures) (renamed _ _ _ _ (name .before .name .ensures .0) (name .append .ensures)))
     (last .append2 .ensures)
 
 pub line-spec : {M : Type 1} → statement M

@@ -9,7 +9,6 @@ use native.Mathlib.Omega.{arith}
 use borrow.Author.Tests.{not-true, not-false}
 use lib.ListN.{length, drop}
 use Rattle.lists.specs.declared.Found.{Found}
-use Rattle.lists.specs.Calls.{placeIn, found}
 use Rattle.slices.specs.Tests.{same}
 use Rattle.lists.specs.Layout.{entriesAt, entryHead, entrySize, namesAt, editionIn, countIn, digestSizeIn, nameLength, readPairs}
 use Rattle.lists.specs.Layout.{readList, accepted}
@@ -17,6 +16,7 @@ use Rattle.slices.specs.Parts.{part}
 use Rattle.lists.specs.code.Rules.{entryRight, entriesRight}
 use Rattle.lists.proofs.ByRules.{accepted-header, accepted-entries}
 use Rattle.fips.proofs.Editions.{digest-short}
+use Rattle.lists.proofs.Places.{found, foundIn, is-found}
 use Rattle.lists.proofs.Walk.{one-less, entries-on, entries-first, entry-fits, place-on, place-over}
 use Rattle.lists.proofs.find.Statement.{statement}
 use Rattle.lists.proofs.find.Tie as tie
@@ -27,7 +27,7 @@ record Left (bs name : List ℕ) (count d at next i : ℕ) : Type 0 where
   inside : next ≤ length bs
   last : List ℕ
   right : entriesRight (count - i) (entrySize d) last next (drop at bs) bs ≡ true
-  decides : found bs name ≡ placeIn name d at (readPairs (count - i) d (drop at bs) bs)
+  decides : found bs name ≡ foundIn name d at (readPairs (count - i) d (drop at bs) bs)
 
 module _ (bs : List ℕ) (count d : ℕ) (a : accepted bs ≡ true) (pn : count ≡ countIn bs) (pd : d ≡ digestSizeIn bs) where
   names-inside : namesAt count d ≤ length bs
@@ -57,7 +57,7 @@ module _ (bs name : List ℕ) (count d at next i : ℕ) (f : Left bs name count 
   module _ (len : ℕ) (h : i < count) (p : len ≡ nameLength (drop at bs)) (s : List ℕ) (q : s ≡ part bs next len) where
     decided : found bs name
         ≡ cond (same s name) (Found.At (at + entryHead) d)
-        (placeIn name d (at + entrySize d) (readPairs (count - (i + 1)) d (drop (at + entrySize d) bs) bs))
+        (foundIn name d (at + entrySize d) (readPairs (count - (i + 1)) d (drop (at + entrySize d) bs) bs))
     decided = f .decides ∙ place-on count i d at next name (f .last) bs h len p (first-right h) ∙ rw q
 
     turn : same s name ≡ false → Left bs name count d (at + entrySize d) (next + len) (i + 1)
@@ -87,7 +87,7 @@ unfolding found
 refuse bs name e = rw e
 
 returns : tie.Need-returns Inv-loop μ-loop
-returns c = refuse _ _ (sym (c .before .is-list .ensures) ∙ not-true _ (c .if1 .taken))
+returns c = is-found _ _ _ (refuse _ _ (sym (c .before .is-list .ensures) ∙ not-true _ (c .if1 .taken)))
 
 abbrev first-of : tie.After-digest-size Inv-loop μ-loop → tie.Start Inv-loop μ-loop
 first-of c = c .before .before .before .before .before .before
@@ -116,19 +116,20 @@ add-start c =
 returns-2 : tie.Need-returns-2 Inv-loop μ-loop
 returns-2 c =
     let l = c .before .before .before .before in
-    here _ _ _ _ _ _ _ (l .before .loop .inv) _ (l .loop-test .taken) (c .before .before .before .name-length .ensures)
-    _ (c .before .before .part .ensures)
-    (sym (c .before .same-bytes .ensures) ∙ c .if2 .taken)
+    is-found _ _ _
+    (here _ _ _ _ _ _ _ (l .before .loop .inv) _ (l .loop-test .taken) (c .before .before .before .name-length .ensures)
+    _ (c .before .before .part .ensures .0)
+    (sym (c .before .same-bytes .ensures) ∙ c .if2 .taken))
 
 loop-again : tie.Need-loop-again Inv-loop μ-loop
 loop-again c =
     let l = c .before .before .before .before in
     turn _ _ _ _ _ _ _ (l .before .loop .inv) _ (l .loop-test .taken) (c .before .before .before .name-length .ensures)
-    _ (c .before .before .part .ensures)
+    _ (c .before .before .part .ensures .0)
     (sym (c .before .same-bytes .ensures) ∙ c .if2 .left)
 
 returns-3 : tie.Need-returns-3 Inv-loop μ-loop
-returns-3 c = nowhere _ _ _ _ _ _ _ (c .before .loop .inv) (c .loop-test .left)
+returns-3 c = is-found _ _ _ (nowhere _ _ _ _ _ _ _ (c .before .loop .inv) (c .loop-test .left))
 
 pub find-spec : {M : Type 1} → statement M
 find-spec =

@@ -57,7 +57,7 @@ returns-3 : tie.Need-returns-3
 returns-3 c =
     let b = c .before .before .before .before in
     let a = b .before .before .before .before .args in
-    forbidden (a .list .now) _ (a .at) _ _ (b .name-length .ensures) _ (c .before .before .part .ensures)
+    forbidden (a .list .now) _ (a .at) _ _ (b .name-length .ensures) _ (c .before .before .part .ensures .0)
     (sym (c .before .allowed .ensures) ∙ not-true _ (c .if3 .taken))
 
 returns-4 : tie.Need-returns-4
@@ -66,9 +66,9 @@ returns-4 c =
     let l = n .before .before .before in
     let o = l .before .before in
     let a = o .before .before .before .args in
-    decided (a .list .now) _ (a .at) _ _ (l .before .name-length .ensures) _ (n .before .before .part .ensures) _
+    decided (a .list .now) _ (a .at) _ _ (l .before .name-length .ensures) _ (n .before .before .part .ensures .0) _
     (sym (o .before .number .ensures) ∙ o .if1 .left) (l .if2 .left) (sym (n .before .allowed .ensures) ∙ not-false _ (n .if3 .left))
-    _ (c .before .part2 .ensures) (c .before2 .ensures)
+    _ (c .before .part2 .ensures .0) (c .before2 .ensures)
 
 pub entry-right-spec : {M : Type 1} → statement M
 entry-right-spec =

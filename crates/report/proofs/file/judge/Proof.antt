@@ -42,7 +42,7 @@ decided c b e =
     let d = c .before .before .before in
     let n = d .before .before .before in
     compares _ _ _ _ _ _ _ _ (n .before .before .before .before .close .ensures .0) (n .number .ensures) (d .before .before .if1 .left)
-    (d .digest-bytes .ensures) (d .before .edition .ensures) (c .before .digest .ensures) (c .same-bytes .ensures) e
+    (d .digest-bytes .ensures) (d .before .edition .ensures) (c .before .digest .ensures .0) (c .same-bytes .ensures) e
 
 pub judge-spec : {M : Type 1} → statement M
 judge-spec =

@@ -41,9 +41,10 @@ returns-2 c =
     let a = l .before .before .before .args in
     let start = l .before .least .ensures in
     let size = l .least2 .ensures in
-    let z = c .before .if1 .left in
-    (cut _ _ _ _ _ start size,
-    lies-there refl _ refl (there (a .s .now) (a .at) (a .n) _ _ start size z) (some (a .s .now) (a .at) (a .n) _ _ start size z))
+    let z = c .before .if1 .left in (
+      cut _ _ _ _ _ start size,
+      lies-there refl _ refl (there (a .s .now) (a .at) (a .n) _ _ start size z) (some (a .s .now) (a .at) (a .n) _ _ start size z),
+    )
 
 pub part-spec : {M : Type 1} → statement M
 part-spec =
