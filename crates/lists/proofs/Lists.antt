@@ -1,11 +1,12 @@
 -- What is true of digest lists. The bytes accepted are those of the valid lists, `listBytes-accepted` and `accepted-list`; each list has
--- its own, `one-list`; a name is listed once, `names-distinct`, so that looking it up gives its digest, `digest-of-name`.
+-- its own, `one-list`; a name is listed once, `names-distinct`, so that looking it up gives its digest, `digest-of-name`, and where that
+-- lies, `place-of-name`.
 -- No list is longer than `longestList`: `list-short`.
 use mathlib.Core.Bool.{Bool, true, false, cond, false≢true}
 use mathlib.Core.List.{List, [], _∷_, _++_}
 use mathlib.Core.Path.{_≡_, refl, sym, ap, subst, _∙_}
-use Prim.Native.Nat.{ℕ, zero, suc, _+_, _<_, _≤_}
-use native.Mathlib.Nat.{not-suc-le-zero, le-of-suc-le-suc}
+use Prim.Native.Nat.{ℕ, zero, suc, _+_, _*_, _<_, _≤_}
+use native.Mathlib.Nat.{not-suc-le-zero, le-of-suc-le-suc, suc-mul, zero-mul}
 use native.Mathlib.Omega.{arith}
 use lib.ListN.{length, getD}
 use Rattle.bigendian.specs.Rows.{rowBytes}
@@ -15,10 +16,10 @@ use Rattle.slices.specs.Below.{Bytes}
 use Rattle.slices.specs.Tests.{holds, every, same}
 use Rattle.slices.proofs.Below.{below-nil, below-append}
 use Rattle.slices.proofs.Tests.{holds-at, cond-both, same-refl, same-eq, same-apart, allBelow-below}
-use Rattle.lists.specs.Calls.{listed, digestIn, listedDigest}
+use Rattle.lists.specs.Calls.{listed, digestIn, listedDigest, placeIn, listedPlace, placeOfDigest}
 use Rattle.lists.specs.Order.{before}
 use Rattle.lists.specs.Layout.{longestList, listRow, entryRow, entryBytes, entryRun, nameRun, namesOf, wholeLength, listBytes}
-use Rattle.lists.specs.Layout.{readList, accepted}
+use Rattle.lists.specs.Layout.{entryHead, entrySize, digestSizeIn, entriesAt, readList, accepted}
 use Rattle.lists.specs.Lists.{Pair, DigestList, pairAllowed, ascending, valid}
 use Rattle.lists.proofs.Allowed.{name-bytes}
 use Rattle.lists.proofs.Ascending.{before-not-self, ascending-first, ascending-later}
@@ -137,3 +138,19 @@ pub digest-of-name : (l : DigestList) → valid l ≡ true → (p : Pair) (i : �
     listedDigest (listBytes l) (getD (l .pairs) i p .name) ≡ getD (l .pairs) i p .digest
 unfolding listedDigest
 digest-of-name l v p i h = rw (listBytes-accepted l v, read-list l v) (digest-in [] (l .pairs) (valid-list l v .ascends) p i h)
+
+place-in : (a : List ℕ) (d at : ℕ) (ps : List Pair) → ascending a ps ≡ true → (p : Pair) (i : ℕ) → i < length ps →
+    placeIn (getD ps i p .name) d at ps ≡ at + i * entrySize d + entryHead
+unfolding ascending placeIn
+place-in a d at [] e p i h = absurd (not-suc-le-zero h)
+place-in a d at (q ∷ ps) e p zero h = rw (same-refl (q .name)) (omega (arith, zero-mul (entrySize d)))
+place-in a d at (q ∷ ps) e p (suc i) h =
+    let t = cond-both (before a (q .name)) (ascending (q .name) ps) e .1 in
+    rw (before-differs (q .name) (getD ps i p .name) (ascending-first (q .name) ps t p i (le-of-suc-le-suc h)))
+    (place-in (q .name) d (at + entrySize d) ps t p i (le-of-suc-le-suc h) ∙ omega (arith, suc-mul i (entrySize d)))
+
+pub place-of-name : (l : DigestList) → valid l ≡ true → (p : Pair) (i : ℕ) → i < length (l .pairs) →
+    listedPlace (listBytes l) (getD (l .pairs) i p .name) ≡ placeOfDigest i (listBytes l)
+unfolding listedPlace
+place-of-name l v p i h =
+    rw (read-list l v) (place-in [] (digestSizeIn (listBytes l)) entriesAt (l .pairs) (valid-list l v .ascends) p i h)
