@@ -15,7 +15,7 @@ abbrev pub begins : List ℕ → ℕ → ℕ
 begins [] at = 0
 begins (x ∷ xs) at = at
 
--- r is handed back out of s: it lies in the same run of memory, and begins so many bytes behind where that begins
+-- r is handed back out of s: a reference points at an offset in a block of memory, and r at one in the block of s, so many bytes behind s
 pub record LiesAt (r s : RefT (List ℕ)) (at : ℕ) : Type 0 where
   pub block : r .ptr .0 ≡ s .ptr .0
   pub offset : r .ptr .1 ≡ s .ptr .1 + begins (r .now) at
