@@ -1,5 +1,5 @@
--- What `Judged` settles: two outcomes that one statement allows coincide, `outcome-settled` and `answer-settled`. The two ways to meet
--- it: `refused` and `done`. An answer is known by its number: `number-injective`.
+-- What `Judged` settles: two outcomes that one statement allows coincide, `outcome-settled` and `answer-settled`, and as one equation
+-- `number-both` and `answer-both`. The two ways to meet it: `refused` and `done`. An answer is known by its number: `number-injective`.
 use mathlib.Core.Path.{_≡_, refl, sym, _∙_, ap}
 use mathlib.Core.List.{List, [], _∷_}
 use Prim.Native.Nat.{ℕ, zero, suc}
@@ -50,6 +50,23 @@ answer-settled r s j k =
     let o = outcome-settled j k in
     (number-injective r s (o .0), o .1)
 
+-- both as one equation of all that is shown: of a number and what is left, of an answer and what is left
+pub number-both : {A : Type 0} {tests : List Test} {old new : A} {n m : ℕ} {left also : A} →
+    Judged tests old new n left → Judged tests old new m also → _≡_ {A = ℕ × A} (n, left) (m, also)
+number-both j k =
+    let o = outcome-settled j k in
+    λ i. (o .0 i, o .1 i)
+
+pub answer-both : {A : Type 0} {tests : List Test} {old new : A} {r s : Answer} {left also : A} →
+    Judged tests old new (numberOf r) left → Judged tests old new (numberOf s) also → _≡_ {A = Answer × A} (r, left) (s, also)
+answer-both {r = r} {s = s} j k =
+    let o = answer-settled r s j k in
+    λ i. (o .0 i, o .1 i)
+
+-- an answer of which the number is said
+pub answer-numbered : {n : ℕ} {r s : Answer} → numberOf r ≡ n → numberOf s ≡ n → r ≡ s
+answer-numbered {r = r} {s = s} p q = number-injective r s (p ∙ sym q)
+
 keeps-old : {A : Type 0} (n : ℕ) (old new : A) → T (ltb 0 n) → after n old new ≡ old
 keeps-old zero old new t = absurd t
 keeps-old (suc n) old new t = refl
@@ -62,7 +79,3 @@ refused {old = old} {new = new} {n = n} e t l = record { answer = sym e; leaves 
 -- no test applies, and the new is left
 pub done : {A : Type 0} {tests : List Test} {old new : A} {left : A} → first tests ≡ 0 → left ≡ new → Judged tests old new 0 left
 done e l = record { answer = sym e; leaves = l ∙ rw e }
-
--- the same of a statement that says what the result is
-pub value-settled : {A : Type 0} {x r s : A} → r ≡ x → s ≡ x → r ≡ s
-value-settled p q = p ∙ sym q
