@@ -1,30 +1,35 @@
--- Settled: two results that a public function's statement allows coincide.
-use mathlib.Core.List.{List, map}
-use mathlib.Core.Path.{_≡_, sym, _∙_}
-use Prim.Native.Nat.{ℕ}
-use lib.ListN.{length}
-use Rattle.bigendian.specs.BigEndian.{be, number, word64}
-use Rattle.bigendian.specs.Rows.{fieldIn}
-use Rattle.bigendian.specs.Words.{toWords, withWords}
-use Rattle.bigendian.specs.code.PutRow.{putRow}
+-- Settled: two results that a public function's own contract allows coincide: what is answered, or all that was lent to be written.
+-- `Learnt` is that contract, made from src.
+use denote.Ref.{now}
+use Rattle.contracts.specs.Says.{Settles}
+use Rattle.contracts.proofs.Values.{value-settled}
+use Rattle.bigendian.proofs.put as put
+use Rattle.bigendian.proofs.put.Reads as put-reads
+use Rattle.bigendian.proofs.get as get
+use Rattle.bigendian.proofs.get.Reads as get-reads
+use Rattle.bigendian.proofs.put_words as put-words
+use Rattle.bigendian.proofs.put_words.Reads as put-words-reads
+use Rattle.bigendian.proofs.get_words as get-words
+use Rattle.bigendian.proofs.get_words.Reads as get-words-reads
+use Rattle.bigendian.proofs.rows.put_row as put-row
+use Rattle.bigendian.proofs.rows.put_row.Reads as put-row-reads
+use Rattle.bigendian.proofs.rows.field as field
+use Rattle.bigendian.proofs.rows.field.Reads as field-reads
 
-pub put-settled : (d : List ℕ) (x : ℕ) {left also : List ℕ} → left ≡ be (length d) x → also ≡ be (length d) x → left ≡ also
-put-settled d x p q = p ∙ sym q
+pub put-settled : Settles put.ended put-reads.Learnt (λ κs r x. now (x .0))
+put-settled κs a r s x y = value-settled
 
-pub get-settled : (s : List ℕ) {r q : ℕ} → r ≡ word64 (number s) → q ≡ word64 (number s) → r ≡ q
-get-settled s p q = p ∙ sym q
+pub get-settled : Settles get.ended get-reads.Learnt (λ κs r x. r)
+get-settled κs a r s x y = value-settled
 
-pub put-words-settled : (d words : List ℕ) (n : ℕ) {left also : List ℕ} → left ≡ withWords n words d → also ≡ withWords n words d →
-    left ≡ also
-put-words-settled d words n p q = p ∙ sym q
+pub put-words-settled : Settles put-words.ended put-words-reads.Learnt (λ κs r x. now (x .0))
+put-words-settled κs a r s x y = value-settled
 
-pub get-words-settled : (d s : List ℕ) (n : ℕ) {left also : List ℕ} → left ≡ map word64 (toWords (length d) n s) →
-    also ≡ map word64 (toWords (length d) n s) → left ≡ also
-get-words-settled d s n p q = p ∙ sym q
+pub get-words-settled : Settles get-words.ended get-words-reads.Learnt (λ κs r x. now (x .0))
+get-words-settled κs a r s x y = value-settled
 
-pub put-row-settled : (sizes values bs : List ℕ) {left also : List ℕ} → left ≡ putRow sizes values bs → also ≡ putRow sizes values bs →
-    left ≡ also
-put-row-settled sizes values bs p q = p ∙ sym q
+pub put-row-settled : Settles put-row.ended put-row-reads.Learnt (λ κs r x. now (x .0))
+put-row-settled κs a r s x y = value-settled
 
-pub field-settled : (bs : List ℕ) (at n : ℕ) {r s : ℕ} → r ≡ word64 (fieldIn bs at n) → s ≡ word64 (fieldIn bs at n) → r ≡ s
-field-settled bs at n p q = p ∙ sym q
+pub field-settled : Settles field.ended field-reads.Learnt (λ κs r x. r)
+field-settled κs a r s x y = value-settled
