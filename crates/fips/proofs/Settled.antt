@@ -1,42 +1,50 @@
--- Settled: two results that a public function's statement allows coincide.
-use mathlib.Core.Bool.{Bool}
-use mathlib.Core.List.{List}
-use mathlib.Core.Path.{_≡_, sym, _∙_}
-use Prim.Native.Nat.{ℕ}
+-- Settled: two results that a public function's own contract allows coincide. `Learnt` is that contract, made from src.
+use denote.Ref.{now}
 use Rattle.contracts.specs.Says.{Settles}
-use Rattle.fips.specs.Words.{w32, w64, blockBytes}
-use Rattle.fips.specs.Constants.{roundWords}
-use Rattle.fips.specs.Editions.{known, width, digestBytes, start}
-use Rattle.fips.specs.Sizes.{isNarrow, widthOf}
+use Rattle.contracts.proofs.Values.{value-settled}
 use Rattle.fips.proofs.Sizes.{sizes-same}
+use Rattle.fips.proofs.tables.round32 as round32
+use Rattle.fips.proofs.tables.round32.Reads as round32-reads
+use Rattle.fips.proofs.tables.round64 as round64
+use Rattle.fips.proofs.tables.round64.Reads as round64-reads
+use Rattle.fips.proofs.tables.start_row as start-row
+use Rattle.fips.proofs.tables.start_row.Reads as start-row-reads
 use Rattle.fips.proofs.lookup.sizes as sizes
 use Rattle.fips.proofs.lookup.sizes.Reads as sizes-reads
+use Rattle.fips.proofs.lookup.known as known
+use Rattle.fips.proofs.lookup.known.Reads as known-reads
+use Rattle.fips.proofs.lookup.narrow as narrow
+use Rattle.fips.proofs.lookup.narrow.Reads as narrow-reads
+use Rattle.fips.proofs.lookup.digest_bytes as digest-bytes
+use Rattle.fips.proofs.lookup.digest_bytes.Reads as digest-bytes-reads
+use Rattle.fips.proofs.lookup.block_size as block-size
+use Rattle.fips.proofs.lookup.block_size.Reads as block-size-reads
+use Rattle.fips.proofs.lookup.block_bytes as block-bytes
+use Rattle.fips.proofs.lookup.block_bytes.Reads as block-bytes-reads
 
-pub round32-settled : {r s : List ℕ} → r ≡ roundWords w32 → s ≡ roundWords w32 → r ≡ s
-round32-settled p q = p ∙ sym q
+pub round32-settled : Settles round32.ended round32-reads.Learnt (λ κs r x. r)
+round32-settled κs a r s x y = value-settled
 
-pub round64-settled : {r s : List ℕ} → r ≡ roundWords w64 → s ≡ roundWords w64 → r ≡ s
-round64-settled p q = p ∙ sym q
+pub round64-settled : Settles round64.ended round64-reads.Learnt (λ κs r x. r)
+round64-settled κs a r s x y = value-settled
 
-pub block-size-settled : (t : Bool) {r s : ℕ} → r ≡ blockBytes (widthOf t) → s ≡ blockBytes (widthOf t) → r ≡ s
-block-size-settled t p q = p ∙ sym q
+pub start-row-settled : Settles start-row.ended start-row-reads.Learnt (λ κs r x. r)
+start-row-settled κs a r s x y = value-settled
 
--- of the edition lookup the case and its values, which its number and the sizes settle
 pub sizes-settled : Settles sizes.ended sizes-reads.Learnt (λ κs r x. r)
 sizes-settled κs a r s x y = sizes-same (a .0) r s
 
-module _ (e : ℕ) where
-  pub start-row-settled : {r s : List ℕ} → r ≡ start e → s ≡ start e → r ≡ s
-  start-row-settled p q = p ∙ sym q
+pub known-settled : Settles known.ended known-reads.Learnt (λ κs r x. r)
+known-settled κs a r s x y = value-settled
 
-  pub known-settled : {r s : Bool} → r ≡ known e → s ≡ known e → r ≡ s
-  known-settled p q = p ∙ sym q
+pub narrow-settled : Settles narrow.ended narrow-reads.Learnt (λ κs r x. r)
+narrow-settled κs a r s x y = value-settled
 
-  pub narrow-settled : {r s : Bool} → r ≡ isNarrow e → s ≡ isNarrow e → r ≡ s
-  narrow-settled p q = p ∙ sym q
+pub digest-bytes-settled : Settles digest-bytes.ended digest-bytes-reads.Learnt (λ κs r x. r)
+digest-bytes-settled κs a r s x y = value-settled
 
-  pub digest-bytes-settled : {r s : ℕ} → r ≡ digestBytes e → s ≡ digestBytes e → r ≡ s
-  digest-bytes-settled p q = p ∙ sym q
+pub block-size-settled : Settles block-size.ended block-size-reads.Learnt (λ κs r x. r)
+block-size-settled κs a r s x y = value-settled
 
-  pub block-bytes-settled : {r s : ℕ} → r ≡ blockBytes (width e) → s ≡ blockBytes (width e) → r ≡ s
-  block-bytes-settled p q = p ∙ sym q
+pub block-bytes-settled : Settles block-bytes.ended block-bytes-reads.Learnt (λ κs r x. r)
+block-bytes-settled κs a r s x y = value-settled
