@@ -1,11 +1,8 @@
--- Settled: two results that the statement of `absorb32` allows coincide.
-use mathlib.Core.List.{List}
-use mathlib.Core.Path.{_≡_, sym, _∙_}
-use Prim.Native.Nat.{ℕ}
-use Rattle.fips.specs.Words.{w32}
-use Rattle.fips.specs.Constants.{chain}
-use Rattle.fips.specs.code.ByteForm.{parseBytes}
+-- Settled: two results that the contract of `absorb32` allows coincide. `Learnt` is that contract, made from src.
+use Rattle.contracts.specs.Says.{Settles}
+use Rattle.contracts.proofs.Values.{value-settled}
+use Rattle.block32.proofs.absorb32 as absorb32
+use Rattle.block32.proofs.absorb32.Reads as absorb32-reads
 
-pub absorb32-settled : (H bytes : List ℕ) {r s : List ℕ} → r ≡ chain w32 H (parseBytes w32 bytes) →
-    s ≡ chain w32 H (parseBytes w32 bytes) → r ≡ s
-absorb32-settled H bytes p q = p ∙ sym q
+pub absorb32-settled : Settles absorb32.ended absorb32-reads.Learnt (λ κs r x. r)
+absorb32-settled κs a r s x y = value-settled
