@@ -1,11 +1,8 @@
--- Settled: two results that the statement of `absorb64` allows coincide.
-use mathlib.Core.List.{List}
-use mathlib.Core.Path.{_≡_, sym, _∙_}
-use Prim.Native.Nat.{ℕ}
-use Rattle.fips.specs.Words.{w64}
-use Rattle.fips.specs.Constants.{chain}
-use Rattle.fips.specs.code.ByteForm.{parseBytes}
+-- Settled: two results that the contract of `absorb64` allows coincide. `Learnt` is that contract, made from src.
+use Rattle.contracts.specs.Says.{Settles}
+use Rattle.contracts.proofs.Values.{value-settled}
+use Rattle.block64.proofs.absorb64 as absorb64
+use Rattle.block64.proofs.absorb64.Reads as absorb64-reads
 
-pub absorb64-settled : (H bytes : List ℕ) {r s : List ℕ} → r ≡ chain w64 H (parseBytes w64 bytes) →
-    s ≡ chain w64 H (parseBytes w64 bytes) → r ≡ s
-absorb64-settled H bytes p q = p ∙ sym q
+pub absorb64-settled : Settles absorb64.ended absorb64-reads.Learnt (λ κs r x. r)
+absorb64-settled κs a r s x y = value-settled
