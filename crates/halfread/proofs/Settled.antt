@@ -1,44 +1,51 @@
--- Settled: two outcomes that a public function's statement allows coincide. SPEC, "How much each call says".
--- `add` and `close` are judged, and `answer-settled` settles them; the others state their result itself.
-use Prim.Native.Nat.{ℕ, _%_}
-use mathlib.Core.Bool.{Bool}
+-- Settled: two outcomes that a public function's own contract allows coincide: what is answered, and all that was lent to be written.
+-- `Learnt` is that contract, made from src. SPEC, "How much each call says".
+use Prim.Native.Nat.{ℕ}
 use mathlib.Core.List.{List}
-use mathlib.Core.Path.{_≡_, sym, _∙_}
-use Rattle.answers.specs.Numbers.{numberOf}
+use mathlib.Core.Path.{ap}
+use denote.Ref.{now}
+use Rattle.contracts.specs.Says.{Settles}
+use Rattle.contracts.proofs.Values.{value-settled}
 use Rattle.answers.specs.declared.Answer.{Answer}
-use Rattle.answers.specs.Judged.{Judged}
-use Rattle.answers.proofs.Outcome.{answer-settled}
-use Rattle.slices.specs.AtFront.{atFront}
+use Rattle.answers.proofs.Outcome.{answer-both}
 use Rattle.halfread.specs.declared.HalfRead.{HalfRead}
 use Rattle.halfread.specs.declared.add.Added.{Added}
-use Rattle.halfread.specs.State.{sound, blank, padded}
-use Rattle.halfread.specs.Steps.{opened, addTests, added, closeTests, closedDigest}
-use Rattle.fips.specs.Words.{blockBytes}
-use Rattle.fips.specs.Editions.{width}
+use Rattle.halfread.proofs.state.«open» as opn
+use Rattle.halfread.proofs.state.«open».Reads as open-reads
+use Rattle.halfread.proofs.state.blank as blank
+use Rattle.halfread.proofs.state.blank.Reads as blank-reads
+use Rattle.halfread.proofs.sound.is_sound as is-sound
+use Rattle.halfread.proofs.sound.is_sound.Reads as is-sound-reads
+use Rattle.halfread.proofs.add.add as add
+use Rattle.halfread.proofs.add.add.Reads as add-reads
+use Rattle.halfread.proofs.close.close as close
+use Rattle.halfread.proofs.close.close.Reads as close-reads
+use Rattle.halfread.proofs.tail.tail_length as tail-length
+use Rattle.halfread.proofs.tail.tail_length.Reads as tail-length-reads
+use Rattle.halfread.proofs.tail.padded as padded
+use Rattle.halfread.proofs.tail.padded.Reads as padded-reads
 
-pub open-settled : (e : ℕ) (r s : HalfRead) → r ≡ opened e → s ≡ opened e → r ≡ s
-open-settled e r s p q = p ∙ sym q
+-- an answer and a half-read message as one struct
+abbrev whole : Answer × HalfRead → Added
+whole p = record { answer = p .0; half = p .1 }
 
-pub blank-settled : (r s : HalfRead) → r ≡ blank → s ≡ blank → r ≡ s
-blank-settled r s p q = p ∙ sym q
+pub open-settled : Settles opn.ended open-reads.Learnt (λ κs r x. r)
+open-settled κs a r s x y = value-settled
 
-pub sound-settled : (h : HalfRead) (r s : Bool) → r ≡ sound h → s ≡ sound h → r ≡ s
-sound-settled h r s p q = p ∙ sym q
+pub blank-settled : Settles blank.ended blank-reads.Learnt (λ κs r x. r)
+blank-settled κs a r s x y = value-settled
 
-module _ (h : HalfRead) where
-  pub add-settled : (piece : List ℕ) (r s : Added) → Judged (addTests h piece) h (added h piece) (numberOf (r .answer)) (r .half) →
-      Judged (addTests h piece) h (added h piece) (numberOf (s .answer)) (s .half) → r ≡ s
-  add-settled piece r s j k =
-      let o = answer-settled (r .answer) (s .answer) j k in
-      λ i. record { answer = o .0 i; half = o .1 i }
+pub is-sound-settled : Settles is-sound.ended is-sound-reads.Learnt (λ κs r x. r)
+is-sound-settled κs a r s x y = value-settled
 
-  module _ (out : List ℕ) (r s : Answer) (left also : List ℕ) where
-    pub close-settled : (x b : ℕ) → Judged (closeTests h x b out) out (atFront (closedDigest h x b) out) (numberOf r) left →
-        Judged (closeTests h x b out) out (atFront (closedDigest h x b) out) (numberOf s) also → (r ≡ s) × (left ≡ also)
-    close-settled x b j k = answer-settled r s j k
+pub add-settled : Settles add.ended add-reads.Learnt (λ κs r x. r)
+add-settled κs a r s x y j k = ap whole (answer-both j k)
 
-pub tail-length-settled : (e c : ℕ) {r s : ℕ} → r ≡ c % blockBytes (width e) → s ≡ c % blockBytes (width e) → r ≡ s
-tail-length-settled e c p q = p ∙ sym q
+pub close-settled : Settles {A = Answer × List ℕ} close.ended close-reads.Learnt (λ κs r x. (r, now (x .1 .1 .1 .0)))
+close-settled κs a r s x y = answer-both
 
-pub padded-settled : (bytes : List ℕ) {r s : List ℕ} → r ≡ padded bytes → s ≡ padded bytes → r ≡ s
-padded-settled bytes p q = p ∙ sym q
+pub tail-length-settled : Settles tail-length.ended tail-length-reads.Learnt (λ κs r x. r)
+tail-length-settled κs a r s x y = value-settled
+
+pub padded-settled : Settles padded.ended padded-reads.Learnt (λ κs r x. r)
+padded-settled κs a r s x y = value-settled
