@@ -1,25 +1,25 @@
--- Settled: two outcomes that a public function's statement allows coincide. SPEC, "How much each call says".
-use mathlib.Core.List.{List}
-use mathlib.Core.Path.{_≡_}
+-- Settled: two outcomes that a public function's own contract allows coincide: what is answered, and all that was lent to be written.
+-- `Learnt` is that contract, made from src. SPEC, "How much each call says".
 use Prim.Native.Nat.{ℕ}
-use Rattle.answers.specs.Numbers.{numberOf}
+use mathlib.Core.List.{List}
+use mathlib.Core.Path.{ap}
+use denote.Ref.{now}
+use Rattle.contracts.specs.Says.{Settles}
 use Rattle.answers.specs.declared.Answer.{Answer}
-use Rattle.answers.specs.Judged.{Judged}
-use Rattle.answers.proofs.Outcome.{answer-settled}
-use Rattle.slices.specs.AtFront.{atFront}
+use Rattle.answers.proofs.Outcome.{answer-both}
 use Rattle.halfread.specs.declared.HalfRead.{HalfRead}
-use Rattle.halfread.specs.State.{blank}
 use Rattle.records.specs.declared.Loaded.{Loaded}
-use Rattle.records.specs.Record.{recordOf, saveTests, loaded, loadTests}
+use Rattle.records.proofs.save as save
+use Rattle.records.proofs.save.Reads as save-reads
+use Rattle.records.proofs.load as load
+use Rattle.records.proofs.load.Reads as load-reads
 
-pub save-settled : (h : HalfRead) (out : List ℕ) (r s : Answer) (left also : List ℕ) →
-    Judged (saveTests h out) out (atFront (recordOf h) out) (numberOf r) left →
-    Judged (saveTests h out) out (atFront (recordOf h) out) (numberOf s) also →
-    (r ≡ s) × (left ≡ also)
-save-settled h out r s left also j k = answer-settled r s j k
+-- an answer and a half-read message as one struct
+abbrev whole : Answer × HalfRead → Loaded
+whole p = record { answer = p .0; half = p .1 }
 
-pub load-settled : (lent : List ℕ) (r s : Loaded) → Judged (loadTests lent) blank (loaded lent) (numberOf (r .answer)) (r .half) →
-    Judged (loadTests lent) blank (loaded lent) (numberOf (s .answer)) (s .half) → r ≡ s
-load-settled lent r s j k =
-    let o = answer-settled (r .answer) (s .answer) j k in
-    λ i. record { answer = o .0 i; half = o .1 i }
+pub save-settled : Settles {A = Answer × List ℕ} save.ended save-reads.Learnt (λ κs r x. (r, now (x .1 .0)))
+save-settled κs a r s x y = answer-both
+
+pub load-settled : Settles load.ended load-reads.Learnt (λ κs r x. r)
+load-settled κs a r s x y j k = ap whole (answer-both j k)
