@@ -1,56 +1,56 @@
--- Settled: two results that a public function's statement allows coincide.
+-- Settled: two outcomes that a public function's own contract allows coincide: what is answered, and all that was lent to be written.
+-- `Learnt` is that contract, made from src. SPEC, "How much each call says".
 use Prim.Native.Nat.{ℕ}
 use mathlib.Core.List.{List}
-use mathlib.Core.Path.{_≡_, sym, _∙_}
+use mathlib.Core.Path.{ap}
+use denote.Ref.{now}
+use Rattle.contracts.specs.Says.{Settles}
+use Rattle.contracts.proofs.Values.{value-settled}
 use Rattle.answers.specs.declared.Answer.{Answer}
-use Rattle.answers.specs.Judged.{Test, Judged, first, after}
-use Rattle.answers.specs.Numbers.{numberOf}
-use Rattle.answers.proofs.Outcome.{number-injective, answer-settled}
+use Rattle.answers.proofs.Outcome.{answer-both, answer-numbered}
 use Rattle.halfread.specs.declared.HalfRead.{HalfRead}
-use Rattle.halfread.specs.State.{blank}
 use Rattle.bays.specs.declared.in_place.Held.{Held}
-use Rattle.bays.specs.Table.{laidOut, putBay}
-use Rattle.bays.specs.Bay.{bayOf, emptyBay}
-use Rattle.bays.specs.Gate.{halfAt, gateTests, takenTests, soundTests, freeTests, layoutTests}
+use Rattle.bays.proofs.table.lay_out as lay-out
+use Rattle.bays.proofs.table.lay_out.Reads as lay-out-reads
+use Rattle.bays.proofs.table.gate as gate
+use Rattle.bays.proofs.table.gate.Reads as gate-reads
+use Rattle.bays.proofs.in_place.gate_taken as gate-taken
+use Rattle.bays.proofs.in_place.gate_taken.Reads as gate-taken-reads
+use Rattle.bays.proofs.in_place.gate_free as gate-free
+use Rattle.bays.proofs.in_place.gate_free.Reads as gate-free-reads
+use Rattle.bays.proofs.in_place.taken_at as taken-at
+use Rattle.bays.proofs.in_place.taken_at.Reads as taken-at-reads
+use Rattle.bays.proofs.in_place.sound_at as sound-at
+use Rattle.bays.proofs.in_place.sound_at.Reads as sound-at-reads
+use Rattle.bays.proofs.in_place.put_at as put-at
+use Rattle.bays.proofs.in_place.put_at.Reads as put-at-reads
+use Rattle.bays.proofs.in_place.clear_at as clear-at
+use Rattle.bays.proofs.in_place.clear_at.Reads as clear-at-reads
 
--- one that answers the first test that applies
-first-settled : (ts : List Test) (r s : Answer) → numberOf r ≡ first ts → numberOf s ≡ first ts → r ≡ s
-first-settled ts r s p q = number-injective r s (p ∙ sym q)
+-- an answer and a half-read message as one struct
+abbrev whole : Answer × HalfRead → Held
+whole p = record { answer = p .0; half = p .1 }
 
--- one that hands back what a bay holds
-held-settled : (ts : List Test) (new : HalfRead) (r s : Held) → Judged ts blank new (numberOf (r .answer)) (r .half) →
-    Judged ts blank new (numberOf (s .answer)) (s .half) → r ≡ s
-held-settled ts new r s j k =
-    let o = answer-settled (r .answer) (s .answer) j k in
-    λ i. record { answer = o .0 i; half = o .1 i }
+pub lay-out-settled : Settles {A = Answer × List ℕ} lay-out.ended lay-out-reads.Learnt (λ κs r x. (r, now (x .0)))
+lay-out-settled κs a r s x y = answer-both
 
-module _ (t : List ℕ) where
-  pub lay-out-settled : (n : ℕ) (r s : Answer) {left also : List ℕ} → Judged (layoutTests t n) t (laidOut n t) (numberOf r) left →
-      Judged (layoutTests t n) t (laidOut n t) (numberOf s) also → (r ≡ s) × (left ≡ also)
-  lay-out-settled n = answer-settled
+pub gate-settled : Settles gate.ended gate-reads.Learnt (λ κs r x. r)
+gate-settled κs a r s x y = answer-numbered
 
-  module _ (i : ℕ) where
-    pub gate-settled : (r s : Answer) → numberOf r ≡ first (gateTests t i) → numberOf s ≡ first (gateTests t i) → r ≡ s
-    gate-settled = first-settled (gateTests t i)
+pub gate-taken-settled : Settles gate-taken.ended gate-taken-reads.Learnt (λ κs r x. r)
+gate-taken-settled κs a r s x y = answer-numbered
 
-    pub gate-taken-settled : (r s : Answer) → numberOf r ≡ first (takenTests t i) → numberOf s ≡ first (takenTests t i) → r ≡ s
-    gate-taken-settled = first-settled (takenTests t i)
+pub gate-free-settled : Settles gate-free.ended gate-free-reads.Learnt (λ κs r x. r)
+gate-free-settled κs a r s x y = answer-numbered
 
-    pub gate-free-settled : (r s : Answer) → numberOf r ≡ first (freeTests t i) → numberOf s ≡ first (freeTests t i) → r ≡ s
-    gate-free-settled = first-settled (freeTests t i)
+pub taken-at-settled : Settles taken-at.ended taken-at-reads.Learnt (λ κs r x. r)
+taken-at-settled κs a r s x y j k = ap whole (answer-both j k)
 
-    pub taken-at-settled : (r s : Held) → Judged (takenTests t i) blank (halfAt t i) (numberOf (r .answer)) (r .half) →
-        Judged (takenTests t i) blank (halfAt t i) (numberOf (s .answer)) (s .half) → r ≡ s
-    taken-at-settled = held-settled (takenTests t i) (halfAt t i)
+pub sound-at-settled : Settles sound-at.ended sound-at-reads.Learnt (λ κs r x. r)
+sound-at-settled κs a r s x y j k = ap whole (answer-both j k)
 
-    pub sound-at-settled : (r s : Held) → Judged (soundTests t i) blank (halfAt t i) (numberOf (r .answer)) (r .half) →
-        Judged (soundTests t i) blank (halfAt t i) (numberOf (s .answer)) (s .half) → r ≡ s
-    sound-at-settled = held-settled (soundTests t i) (halfAt t i)
+pub put-at-settled : Settles put-at.ended put-at-reads.Learnt (λ κs r x. now (x .0))
+put-at-settled κs a r s x y = value-settled
 
-    pub put-at-settled : (h : HalfRead) {left also : List ℕ} → left ≡ after (first (gateTests t i)) t (putBay t i (bayOf h)) →
-        also ≡ after (first (gateTests t i)) t (putBay t i (bayOf h)) → left ≡ also
-    put-at-settled h p q = p ∙ sym q
-
-    pub clear-at-settled : {left also : List ℕ} → left ≡ after (first (gateTests t i)) t (putBay t i emptyBay) →
-        also ≡ after (first (gateTests t i)) t (putBay t i emptyBay) → left ≡ also
-    clear-at-settled p q = p ∙ sym q
+pub clear-at-settled : Settles clear-at.ended clear-at-reads.Learnt (λ κs r x. now (x .0))
+clear-at-settled κs a r s x y = value-settled
