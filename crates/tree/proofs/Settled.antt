@@ -1,23 +1,29 @@
--- Settled: two results that a public function's statement allows coincide.
-use mathlib.Core.List.{List, []}
-use mathlib.Core.Path.{_≡_}
+-- Settled: two outcomes that a public function's own contract allows coincide: what is answered, and all that was lent to be written.
+-- `Learnt` is that contract, made from src. SPEC, "How much each call says".
 use Prim.Native.Nat.{ℕ}
-use lib.ListN.{take}
+use mathlib.Core.List.{List}
+use denote.Ref.{now}
+use Rattle.contracts.specs.Says.{Settles}
+use Rattle.contracts.proofs.Values.{value-settled}
 use Rattle.answers.specs.declared.Answer.{Answer}
-use Rattle.answers.specs.Numbers.{numberOf}
-use Rattle.answers.proofs.Outcome.{answer-settled, value-settled}
-use Rattle.tree.specs.Root.{chunkBytes, Node, sha256, leaf, parent}
-use Rattle.tree.specs.Tree.{Trees}
+use Rattle.answers.proofs.Outcome.{answer-both}
+use Rattle.tree.proofs.whole.tree as tree
+use Rattle.tree.proofs.whole.tree.Reads as tree-reads
+use Rattle.tree.proofs.node.nothing as nothing
+use Rattle.tree.proofs.node.nothing.Reads as nothing-reads
+use Rattle.tree.proofs.node.leaf as leaf
+use Rattle.tree.proofs.node.leaf.Reads as leaf-reads
+use Rattle.tree.proofs.node.parent as parent
+use Rattle.tree.proofs.node.parent.Reads as parent-reads
 
-pub tree-settled : (bytes out : List ℕ) (r s : Answer) {left also : List ℕ} →
-    Trees bytes out (numberOf r) left → Trees bytes out (numberOf s) also → (r ≡ s) × (left ≡ also)
-tree-settled bytes out = answer-settled
+pub tree-settled : Settles {A = Answer × List ℕ} tree.ended tree-reads.Learnt (λ κs r x. (r, now (x .1 .0)))
+tree-settled κs a r s x y = answer-both
 
-pub nothing-settled : {r s : Node} → r ≡ sha256 [] → s ≡ sha256 [] → r ≡ s
-nothing-settled = value-settled
+pub nothing-settled : Settles nothing.ended nothing-reads.Learnt (λ κs r x. r)
+nothing-settled κs a r s x y = value-settled
 
-pub leaf-settled : (bytes : List ℕ) {r s : Node} → r ≡ leaf (take chunkBytes bytes) → s ≡ leaf (take chunkBytes bytes) → r ≡ s
-leaf-settled bytes = value-settled
+pub leaf-settled : Settles leaf.ended leaf-reads.Learnt (λ κs r x. r)
+leaf-settled κs a r s x y = value-settled
 
-pub parent-settled : (left right : Node) {r s : Node} → r ≡ parent left right → s ≡ parent left right → r ≡ s
-parent-settled left right = value-settled
+pub parent-settled : Settles parent.ended parent-reads.Learnt (λ κs r x. r)
+parent-settled κs a r s x y = value-settled
