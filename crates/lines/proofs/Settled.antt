@@ -1,27 +1,27 @@
--- Two outcomes that one statement allows coincide, for each public function.
--- An outcome is what is answered, and the output that is left.
+-- Settled: two outcomes that a public function's own contract allows coincide: what is answered, and all that was lent to be written.
+-- `Learnt` is that contract, made from src. SPEC, "How much each call says".
 use Prim.Native.Nat.{ℕ}
 use mathlib.Core.List.{List}
-use mathlib.Core.Path.{_≡_, sym, _∙_}
-use Rattle.lines.specs.declared.Tally.{Tally}
-use Rattle.lines.specs.declared.Verdict.{Verdict}
-use Rattle.lines.specs.Lines.{lineOf, countLine, notAList}
-use Rattle.lines.specs.code.Counting.{counted}
-use Rattle.lines.specs.code.Putting.{Put}
+use denote.Ref.{now}
+use Rattle.contracts.specs.Says.{Settles}
+use Rattle.contracts.proofs.Values.{value-settled, both-settled}
+use Rattle.lines.proofs.line as line
+use Rattle.lines.proofs.line.Reads as line-reads
+use Rattle.lines.proofs.counts as counts
+use Rattle.lines.proofs.counts.Reads as counts-reads
+use Rattle.lines.proofs.not_a_list as not-a-list
+use Rattle.lines.proofs.not_a_list.Reads as not-a-list-reads
+use Rattle.lines.proofs.counted as counted
+use Rattle.lines.proofs.counted.Reads as counted-reads
 
--- of a function that answers r and leaves l
-pub both-settled : {A B : Type 0} (r s x : A) (l m y : B) → (r ≡ x) × (l ≡ y) → (s ≡ x) × (m ≡ y) → (r ≡ s) × (l ≡ m)
-both-settled r s x l m y p q = (p .0 ∙ sym (q .0), p .1 ∙ sym (q .1))
+pub line-settled : Settles {A = ℕ × List ℕ} line.ended line-reads.Learnt (λ κs r x. (r, now (x .1 .1 .1 .0)))
+line-settled κs a r s x y = both-settled
 
-module _ (out : List ℕ) (r s : ℕ) (l m : List ℕ) where
-  pub line-settled : (v : Verdict) (name : List ℕ) → Put 0 (lineOf v name) out r l → Put 0 (lineOf v name) out s m → (r ≡ s) × (l ≡ m)
-  line-settled v name p q = both-settled _ _ _ _ _ _ p q
+pub counts-settled : Settles {A = ℕ × List ℕ} counts.ended counts-reads.Learnt (λ κs r x. (r, now (x .1 .0)))
+counts-settled κs a r s x y = both-settled
 
-  pub counts-settled : (t : Tally) → Put 0 (countLine t) out r l → Put 0 (countLine t) out s m → (r ≡ s) × (l ≡ m)
-  counts-settled t p q = both-settled _ _ _ _ _ _ p q
+pub not-a-list-settled : Settles {A = ℕ × List ℕ} not-a-list.ended not-a-list-reads.Learnt (λ κs r x. (r, now (x .0)))
+not-a-list-settled κs a r s x y = both-settled
 
-  pub not-a-list-settled : Put 0 notAList out r l → Put 0 notAList out s m → (r ≡ s) × (l ≡ m)
-  not-a-list-settled p q = both-settled _ _ _ _ _ _ p q
-
-pub counted-settled : (t : Tally) (v : Verdict) (r s : Tally) → r ≡ counted t v → s ≡ counted t v → r ≡ s
-counted-settled t v r s p q = p ∙ sym q
+pub counted-settled : Settles counted.ended counted-reads.Learnt (λ κs r x. r)
+counted-settled κs a r s x y = value-settled
