@@ -1,3 +1,4 @@
 pub mod Digits
 pub mod Fields
 pub mod Scan
+pub mod Settled

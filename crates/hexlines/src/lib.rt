@@ -1,8 +1,9 @@
 // Lines of text as test vectors have them: fields between single spaces, decimal numbers, bytes in hexadecimal.
 // Every function is total; what is no number or no hexadecimal is said to be none.
 ghost use mathlib.Core.Path.{_≡_};
+ghost use mathlib.Core.List.{_++_};
 ghost use Prim.Native.Nat.{_/_, _≤_, min};
-ghost use lib.ListN.{length, take};
+ghost use lib.ListN.{length, take, drop};
 ghost use Rattle.hexlines.specs.Fields.{place, firstField, otherFields};
 ghost use Rattle.hexlines.specs.Digits.{digitOf, byteOf, isHex, bytesOf, sizeWithin, decimalOf};
 use slices::places::least;
@@ -81,11 +82,10 @@ pub fn is_hex(s: &[u8]) -> bool
     s.len() % 2 == 0
 }
 
-// The bytes of the text at the front of d, as many as there is room for, and how many they are.
+// The bytes of the text at the front of d, as many as there is room for, and how many they are; the rest of d is kept.
 pub fn unhex(s: &[u8], d: &mut [u8]) -> usize
-    ensures { λ r. ⌜ take r (now (d .exit)) ≡ bytesOf (now (s .entry)) r ⌝ }
     ensures { λ r. ⌜ r ≡ min (length (now (s .entry)) / 2) (length (now (d .entry))) ⌝ }
-    ensures { λ r. ⌜ (r ≤ length (now (d .exit))) × (r ≡ length (take r (now (d .exit)))) ⌝ }
+    ensures { λ r. ⌜ now (d .exit) ≡ bytesOf (now (s .entry)) r ++ drop r (now (d .entry)) ⌝ }
 {
     let n = least(s.len() / 2, d.len());
     let mut i = 0;
@@ -99,7 +99,7 @@ pub fn unhex(s: &[u8], d: &mut [u8]) -> usize
 // The bytes of the text at the front of d, and how many they are: none where it is no hexadecimal or there is no room for all.
 pub fn unhex_all(s: &[u8], d: &mut [u8]) -> usize
     ensures { λ r. ⌜ r ≡ sizeWithin (length (now (d .entry))) (now (s .entry)) ⌝ }
-    ensures { λ r. ⌜ take r (now (d .exit)) ≡ bytesOf (now (s .entry)) r ⌝ }
+    ensures { λ r. ⌜ now (d .exit) ≡ bytesOf (now (s .entry)) r ++ drop r (now (d .entry)) ⌝ }
 {
     if !is_hex(s) {
         return 0;
