@@ -1,59 +1,65 @@
--- Settled: two outcomes that a call's statement allows coincide, answer, table and output; of ask the answer and what it tells.
+-- Settled: two outcomes that a call's own contract allows coincide: answer, table and output; of ask the answer and what it tells.
+-- `Learnt` is that contract, made from src. SPEC, "How much each call says".
 use Prim.Native.Nat.{ℕ}
-use mathlib.Core.List.{List, []}
+use mathlib.Core.List.{List}
 use mathlib.Core.Path.{_≡_, ap}
-use Rattle.answers.specs.Numbers.{numberOf}
+use denote.Ref.{now}
+use Rattle.contracts.specs.Says.{Settles}
 use Rattle.answers.specs.declared.Answer.{Answer}
 use Rattle.answers.specs.Judged.{Lent}
-use Rattle.answers.proofs.Outcome.{answer-settled}
-use Rattle.calls.specs.Calls.{Call, layOut, opening, adding, closing, saving, loading, dropping, Told, Outcome, Asks}
+use Rattle.answers.proofs.Outcome.{answer-both}
+use Rattle.calls.specs.declared.Asked.{Asked}
+use Rattle.calls.specs.Calls.{Told}
+use Rattle.calls.proofs.lay_out as lay-out
+use Rattle.calls.proofs.lay_out.Reads as lay-out-reads
+use Rattle.calls.proofs.«open» as opn
+use Rattle.calls.proofs.«open».Reads as open-reads
+use Rattle.calls.proofs.add as add
+use Rattle.calls.proofs.add.Reads as add-reads
+use Rattle.calls.proofs.close as close
+use Rattle.calls.proofs.close.Reads as close-reads
+use Rattle.calls.proofs.save as save
+use Rattle.calls.proofs.save.Reads as save-reads
+use Rattle.calls.proofs.load as load
+use Rattle.calls.proofs.load.Reads as load-reads
+use Rattle.calls.proofs.ask as ask
+use Rattle.calls.proofs.ask.Reads as ask-reads
+use Rattle.calls.proofs.drop as drop
+use Rattle.calls.proofs.drop.Reads as drop-reads
 
-module _ (t : List ℕ) (r s : Answer) {left also : List ℕ} where
-  -- any call
-  pub call-settled : {out too : List ℕ} (c : Call) → Outcome t c (numberOf r) left out → Outcome t c (numberOf s) also too →
-      (r ≡ s) × (left ≡ also) × (out ≡ too)
-  call-settled c j k =
-      let o = answer-settled r s j k in
-      (o .0, ap (λ (l : Lent). l .table) (o .1), ap (λ (l : Lent). l .output) (o .1))
+-- what is shown of an answer, or its number, and of what was lent: the table alone, or table and output
+module _ {A : Type 0} {p q : A × Lent} where
+  pub table-shown : p ≡ q → _≡_ {A = A × List ℕ} (p .0, p .1 .table) (q .0, q .1 .table)
+  table-shown = ap (λ (o : A × Lent). (o .0, o .1 .table))
 
-  -- any call that is lent the table alone
-  alone-settled : (c : Call) → Outcome t c (numberOf r) left [] → Outcome t c (numberOf s) also [] → (r ≡ s) × (left ≡ also)
-  alone-settled c j k =
-      let o = call-settled c j k in
-      (o .0, o .1)
+  pub output-shown : p ≡ q → _≡_ {A = A × List ℕ × List ℕ} (p .0, p .1 .table, p .1 .output) (q .0, q .1 .table, q .1 .output)
+  output-shown = ap (λ (o : A × Lent). (o .0, o .1 .table, o .1 .output))
 
-  pub lay-out-settled : (n : ℕ) → Outcome t (layOut n) (numberOf r) left [] → Outcome t (layOut n) (numberOf s) also [] →
-      (r ≡ s) × (left ≡ also)
-  lay-out-settled n = alone-settled (layOut n)
+-- an answer and what ask tells as one struct
+abbrev whole : Answer × Told → Asked
+whole p = record { answer = p .0; edition = p .1 .edition; count = p .1 .count }
 
-  pub open-settled : (i e : ℕ) → Outcome t (opening i e) (numberOf r) left [] → Outcome t (opening i e) (numberOf s) also [] →
-      (r ≡ s) × (left ≡ also)
-  open-settled i e = alone-settled (opening i e)
+pub lay-out-settled : Settles {A = Answer × List ℕ} lay-out.ended lay-out-reads.Learnt (λ κs r x. (r, now (x .0)))
+lay-out-settled κs a r s x y j k = table-shown (answer-both (j .0) (k .0))
 
-  pub add-settled : (i : ℕ) (piece : List ℕ) → Outcome t (adding i piece) (numberOf r) left [] →
-      Outcome t (adding i piece) (numberOf s) also [] →
-      (r ≡ s) × (left ≡ also)
-  add-settled i piece = alone-settled (adding i piece)
+pub open-settled : Settles {A = Answer × List ℕ} opn.ended open-reads.Learnt (λ κs r x. (r, now (x .0)))
+open-settled κs a r s x y j k = table-shown (answer-both (j .0) (k .0))
 
-  pub load-settled : (i : ℕ) (bytes : List ℕ) → Outcome t (loading i bytes) (numberOf r) left [] →
-      Outcome t (loading i bytes) (numberOf s) also [] →
-      (r ≡ s) × (left ≡ also)
-  load-settled i bytes = alone-settled (loading i bytes)
+pub add-settled : Settles {A = Answer × List ℕ} add.ended add-reads.Learnt (λ κs r x. (r, now (x .0)))
+add-settled κs a r s x y j k = table-shown (answer-both (j .0) (k .0))
 
-  pub drop-settled : (i : ℕ) → Outcome t (dropping i) (numberOf r) left [] → Outcome t (dropping i) (numberOf s) also [] →
-      (r ≡ s) × (left ≡ also)
-  drop-settled i = alone-settled (dropping i)
+pub close-settled : Settles {A = Answer × List ℕ × List ℕ} close.ended close-reads.Learnt
+    (λ κs r x. (r, now (x .0), now (x .1 .1 .1 .1 .0)))
+close-settled κs a r s x y j k = output-shown (answer-both (j .0) (k .0))
 
-  module _ (i : ℕ) (out : List ℕ) {to too : List ℕ} where
-    pub close-settled : (x b : ℕ) → Outcome t (closing i x b out) (numberOf r) left to →
-        Outcome t (closing i x b out) (numberOf s) also too →
-        (r ≡ s) × (left ≡ also) × (to ≡ too)
-    close-settled x b = call-settled (closing i x b out)
+pub save-settled : Settles {A = Answer × List ℕ × List ℕ} save.ended save-reads.Learnt (λ κs r x. (r, now (x .0), now (x .1 .1 .0)))
+save-settled κs a r s x y j k = output-shown (answer-both (j .0) (k .0))
 
-    pub save-settled : Outcome t (saving i out) (numberOf r) left to → Outcome t (saving i out) (numberOf s) also too →
-        (r ≡ s) × (left ≡ also) × (to ≡ too)
-    save-settled = call-settled (saving i out)
+pub load-settled : Settles {A = Answer × List ℕ} load.ended load-reads.Learnt (λ κs r x. (r, now (x .0)))
+load-settled κs a r s x y j k = table-shown (answer-both (j .0) (k .0))
 
-pub ask-settled : (t : List ℕ) (i : ℕ) (r s : Answer) {says also : Told} → Asks t i (numberOf r) says → Asks t i (numberOf s) also →
-    (r ≡ s) × (says ≡ also)
-ask-settled t i r s j k = answer-settled r s j k
+pub ask-settled : Settles ask.ended ask-reads.Learnt (λ κs r x. r)
+ask-settled κs a r s x y j k = ap whole (answer-both (j .0) (k .0))
+
+pub drop-settled : Settles {A = Answer × List ℕ} drop.ended drop-reads.Learnt (λ κs r x. (r, now (x .0)))
+drop-settled κs a r s x y j k = table-shown (answer-both (j .0) (k .0))
