@@ -1,0 +1,73 @@
+-- Settled: two outcomes that a C name's own contract allows coincide: the number, and all that was lent to be written.
+-- `Learnt` is that contract, made from src. SPEC, "How much each call says".
+use Prim.Native.Nat.{ℕ}
+use mathlib.Core.List.{List}
+use mathlib.Core.Path.{ap}
+use denote.Ref.{now}
+use Rattle.contracts.specs.Says.{Settles}
+use Rattle.contracts.proofs.Values.{value-settled, three-settled}
+use Rattle.answers.proofs.Outcome.{number-both}
+use Rattle.calls.specs.Calls.{Told}
+use Rattle.calls.proofs.Settled.{table-shown, output-shown}
+use Rattle.capi.proofs.dw_hash as dw-hash
+use Rattle.capi.proofs.dw_hash.Reads as dw-hash-reads
+use Rattle.capi.proofs.dw_lay_out as dw-lay-out
+use Rattle.capi.proofs.dw_lay_out.Reads as dw-lay-out-reads
+use Rattle.capi.proofs.dw_open as dw-open
+use Rattle.capi.proofs.dw_open.Reads as dw-open-reads
+use Rattle.capi.proofs.dw_add as dw-add
+use Rattle.capi.proofs.dw_add.Reads as dw-add-reads
+use Rattle.capi.proofs.dw_close as dw-close
+use Rattle.capi.proofs.dw_close.Reads as dw-close-reads
+use Rattle.capi.proofs.dw_save as dw-save
+use Rattle.capi.proofs.dw_save.Reads as dw-save-reads
+use Rattle.capi.proofs.dw_load as dw-load
+use Rattle.capi.proofs.dw_load.Reads as dw-load-reads
+use Rattle.capi.proofs.dw_drop as dw-drop
+use Rattle.capi.proofs.dw_drop.Reads as dw-drop-reads
+use Rattle.capi.proofs.dw_ask as dw-ask
+use Rattle.capi.proofs.dw_ask.Reads as dw-ask-reads
+use Rattle.capi.proofs.dw_tree as dw-tree
+use Rattle.capi.proofs.dw_tree.Reads as dw-tree-reads
+use Rattle.capi.proofs.dw_judge as dw-judge
+use Rattle.capi.proofs.dw_judge.Reads as dw-judge-reads
+use Rattle.capi.proofs.dw_lookup as dw-lookup
+use Rattle.capi.proofs.dw_lookup.Reads as dw-lookup-reads
+
+pub dw-hash-settled : Settles {A = ℕ × List ℕ} dw-hash.ended dw-hash-reads.Learnt (λ κs r x. (r, now (x .1 .1 .1 .1 .0)))
+dw-hash-settled κs a r s x y = number-both
+
+pub dw-lay-out-settled : Settles {A = ℕ × List ℕ} dw-lay-out.ended dw-lay-out-reads.Learnt (λ κs r x. (r, now (x .0)))
+dw-lay-out-settled κs a r s x y j k = table-shown (number-both (j .0) (k .0))
+
+pub dw-open-settled : Settles {A = ℕ × List ℕ} dw-open.ended dw-open-reads.Learnt (λ κs r x. (r, now (x .0)))
+dw-open-settled κs a r s x y j k = table-shown (number-both (j .0) (k .0))
+
+pub dw-add-settled : Settles {A = ℕ × List ℕ} dw-add.ended dw-add-reads.Learnt (λ κs r x. (r, now (x .0)))
+dw-add-settled κs a r s x y j k = table-shown (number-both (j .0) (k .0))
+
+pub dw-close-settled : Settles {A = ℕ × List ℕ × List ℕ} dw-close.ended dw-close-reads.Learnt
+    (λ κs r x. (r, now (x .0), now (x .1 .1 .1 .1 .0)))
+dw-close-settled κs a r s x y j k = output-shown (number-both (j .0) (k .0))
+
+pub dw-save-settled : Settles {A = ℕ × List ℕ × List ℕ} dw-save.ended dw-save-reads.Learnt (λ κs r x. (r, now (x .0), now (x .1 .1 .0)))
+dw-save-settled κs a r s x y j k = output-shown (number-both (j .0) (k .0))
+
+pub dw-load-settled : Settles {A = ℕ × List ℕ} dw-load.ended dw-load-reads.Learnt (λ κs r x. (r, now (x .0)))
+dw-load-settled κs a r s x y j k = table-shown (number-both (j .0) (k .0))
+
+pub dw-drop-settled : Settles {A = ℕ × List ℕ} dw-drop.ended dw-drop-reads.Learnt (λ κs r x. (r, now (x .0)))
+dw-drop-settled κs a r s x y j k = table-shown (number-both (j .0) (k .0))
+
+pub dw-ask-settled : Settles {A = ℕ × ℕ × ℕ} dw-ask.ended dw-ask-reads.Learnt (λ κs r x. (r, now (x .1 .1 .0), now (x .1 .1 .1 .0)))
+dw-ask-settled κs a r s x y j k = ap (λ (p : ℕ × Told). (p .0, p .1 .edition, p .1 .count)) (number-both (j .0) (k .0))
+
+pub dw-tree-settled : Settles {A = ℕ × List ℕ} dw-tree.ended dw-tree-reads.Learnt (λ κs r x. (r, now (x .1 .0)))
+dw-tree-settled κs a r s x y = number-both
+
+pub dw-judge-settled : Settles dw-judge.ended dw-judge-reads.Learnt (λ κs r x. r)
+dw-judge-settled κs a r s x y = value-settled
+
+pub dw-lookup-settled : Settles {A = ℕ × ℕ × ℕ} dw-lookup.ended dw-lookup-reads.Learnt
+    (λ κs r x. (r, now (x .1 .1 .0), now (x .1 .1 .1 .0)))
+dw-lookup-settled κs a r s x y p q = three-settled (p .0, p .1 .0, p .1 .1) (q .0, q .1 .0, q .1 .1)
