@@ -5,7 +5,7 @@ use mathlib.Core.List.{List}
 use mathlib.Core.Path.{ap}
 use denote.Ref.{now}
 use Rattle.contracts.specs.Says.{Settles}
-use Rattle.contracts.proofs.Values.{value-settled, three-settled}
+use Rattle.contracts.proofs.Values.{value-settled}
 use Rattle.answers.proofs.Outcome.{number-both}
 use Rattle.calls.specs.Calls.{Told}
 use Rattle.calls.proofs.Settled.{table-shown, output-shown}
@@ -70,4 +70,6 @@ dw-judge-settled κs a r s x y = value-settled
 
 pub dw-lookup-settled : Settles {A = ℕ × ℕ × ℕ} dw-lookup.ended dw-lookup-reads.Learnt
     (λ κs r x. (r, now (x .1 .1 .0), now (x .1 .1 .1 .0)))
-dw-lookup-settled κs a r s x y p q = three-settled (p .0, p .1 .0, p .1 .1) (q .0, q .1 .0, q .1 .1)
+dw-lookup-settled κs a r s x y j k =
+    let o = number-both j k in
+    λ i. (o i .0, o i .1 .at, o i .1 .length)
