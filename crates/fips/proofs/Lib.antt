@@ -1,4 +1,5 @@
 pub mod Bits
+pub mod Parts
 pub mod Rotation
 pub mod Padding
 pub mod ByteForm

@@ -1,14 +1,14 @@
 -- Hash at once: what its tests tell, and that finishing the whole message from the starting words gives the standard's digest.
 -- Main: `digest-at-once`.
 use Prim.Native.Nat.{ℕ, _+_, _-_, _*_, _%_, _^_, _≤_, _<_}
-use mathlib.Core.Bool.{Bool, true, false, _&&_, false≢true}
+use mathlib.Core.Bool.{true, and-eq-true-iff}
 use mathlib.Core.List.{List, _∷_, _++_, append-assoc}
-use mathlib.Core.Path.{_≡_, refl, sym, ap, ap₂, _∙_}
+use mathlib.Core.Path.{_≡_, sym, ap, ap₂, _∙_}
 use native.Mathlib.Nat.{mod-eq-of-lt}
 use native.Mathlib.Omega.{arith}
 use lib.Dec.{leb, eqb}
 use lib.ListN.{length, take, replicate}
-use borrow.Author.Tests.{leb-true}
+use borrow.Author.Tests.{leb-true, eqb-true, le-leb, eq-eqb}
 use Rattle.bigendian.specs.BigEndian.{be}
 use Rattle.slices.specs.Below.{Bytes}
 use Rattle.bigendian.specs.Words.{fromWords}
@@ -28,11 +28,15 @@ use Rattle.sha2.proofs.Widths.{fit-same}
 
 pub closing-few : (x b : ℕ) → closingFits x b ≡ true → b ≤ 7
 unfolding closingFits
-closing-few x b p = go (leb b 7) refl p
-  where
-    go : (t : Bool) → leb b 7 ≡ t → (t && eqb (x % 2 ^ (8 - b)) 0) ≡ true → b ≤ 7
-    go true q r = leb-true b 7 q
-    go false q r = absurd (false≢true r)
+closing-few x b p = leb-true b 7 (and-eq-true-iff (leb b 7) (eqb (x % 2 ^ (8 - b)) 0) .0 p .0)
+
+pub closing-zeros : (x b : ℕ) → closingFits x b ≡ true → x % 2 ^ (8 - b) ≡ 0
+unfolding closingFits
+closing-zeros x b p = eqb-true (x % 2 ^ (8 - b)) 0 (and-eq-true-iff (leb b 7) (eqb (x % 2 ^ (8 - b)) 0) .0 p .1)
+
+pub closing-fits : (x b : ℕ) → b ≤ 7 → x % 2 ^ (8 - b) ≡ 0 → closingFits x b ≡ true
+unfolding closingFits
+closing-fits x b few none = rw (le-leb b 7 few, eq-eqb (x % 2 ^ (8 - b)) 0 none)
 
 -- ---- the digest
 

@@ -5,6 +5,7 @@ pub mod Limits
 pub mod Length
 pub mod Digest
 pub mod AtOnce
+pub mod OneWay
 pub mod Last
 pub mod Finished
 pub mod Settled

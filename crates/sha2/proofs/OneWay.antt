@@ -1,0 +1,106 @@
+-- Every message of bits within the limit is passed in exactly one way that is refused neither with 7 nor with 8: `one-way`.
+-- Every way that is not refused so passes a message within the limit: `passed-within`. Of hash at once: `passed-hashed`, `taken-passes`.
+use Prim.Native.Nat.{ℕ, _/_, _≤_, _<_}
+use mathlib.Core.Bool.{Bool, true, false, not, cond}
+use mathlib.Core.List.{List}
+use mathlib.Core.Path.{_≡_, refl, sym, ap, _∙_}
+use native.Mathlib.Omega.{arith}
+use lib.Dec.{ltb}
+use lib.ListN.{length}
+use borrow.Author.Tests.{le-ltb}
+use Rattle.answers.specs.Judged.{first}
+use Rattle.fips.specs.Editions.{known, digestBytes, digest}
+use Rattle.fips.specs.Message.{message}
+use Rattle.fips.proofs.Parts.{bitsBehind, bytesIn, closingIn, few-behind, bytesIn-bytes, length-bytesIn, closingIn-byte, closingIn-zeros}
+use Rattle.fips.proofs.Parts.{parts-message, message-wholes, message-bits, message-bytes, message-closing}
+use Rattle.slices.specs.AtFront.{atFront}
+use Rattle.slices.specs.Below.{Bytes}
+use Rattle.sha2.specs.Closing.{closingFits}
+use Rattle.sha2.specs.Hash.{Hashes, hashTests, hashed}
+use Rattle.sha2.specs.Limit.{tooLong}
+use Rattle.sha2.specs.Passing.{Way, Within, Passes}
+use Rattle.sha2.proofs.AtOnce.{closing-few, closing-zeros, closing-fits}
+
+-- the way that the message itself tells
+abbrev pub wayOf : List Bool → Way
+wayOf m = record { bytes = bytesIn m; closing = closingIn m; bits = bitsBehind m }
+
+module _ (e : ℕ) (m : List Bool) where
+  pub message-passed : Within e m → Passes e m (wayOf m)
+  message-passed h =
+      record {
+        whole = bytesIn-bytes m;
+        byte = closingIn-byte m;
+        short = ap (tooLong e 0) (length-bytesIn m) ∙ h;
+        fits = closing-fits (closingIn m) (bitsBehind m) (omega (arith, few-behind m)) (closingIn-zeros m);
+        means = parts-message m;
+      }
+
+  module _ (w : Way) (p : Passes e m w) where
+    few : w .bits < 8
+    few = omega (arith, closing-few (w .closing) (w .bits) (p .fits))
+
+    -- a message that is passed is within the limit
+    pub passed-within : Within e m
+    passed-within =
+        ap (λ (l : List Bool). tooLong e 0 (length l / 8)) (sym (p .means))
+        ∙ ap (tooLong e 0) (message-wholes (w .bytes) (w .closing) (w .bits) few)
+        ∙ p .short
+
+    -- and is so in the way that it tells
+    passed-as : w ≡ wayOf m
+    passed-as =
+        let bytes : bytesIn m ≡ w .bytes =
+        ap bytesIn (sym (p .means)) ∙ message-bytes (w .bytes) (w .closing) (w .bits) few (p .whole) in
+        let closing : closingIn m ≡ w .closing =
+        ap closingIn (sym (p .means))
+        ∙ message-closing (w .bytes) (w .closing) (w .bits) few (p .byte) (closing-zeros (w .closing) (w .bits) (p .fits)) in
+        let bits : bitsBehind m ≡ w .bits = ap bitsBehind (sym (p .means)) ∙ message-bits (w .bytes) (w .closing) (w .bits) few in
+        λ i. record { bytes = sym bytes i; closing = sym closing i; bits = sym bits i }
+
+  pub passed-once : (v w : Way) → Passes e m v → Passes e m w → v ≡ w
+  passed-once v w p q = passed-as v p ∙ sym (passed-as w q)
+
+  -- exactly one way
+  pub one-way : Within e m → (w : Way) × (Passes e m w × ((v : Way) → Passes e m v → v ≡ w))
+  one-way h = (wayOf m, (message-passed h, passed-as))
+
+-- ---- hash at once
+
+other-numbers : (k s : Bool) {n : ℕ} → n ≡ cond k 5 (cond s 9 0) → (n ≡ 7 → ⊥) × (n ≡ 8 → ⊥)
+other-numbers true s e = (λ q. omega arith, λ q. omega arith)
+other-numbers false true e = (λ q. omega arith, λ q. omega arith)
+other-numbers false false e = (λ q. omega arith, λ q. omega arith)
+
+neither : (l f s : Bool) {n : ℕ} → n ≡ cond l 7 (cond (not f) 8 (cond s 9 0)) → (n ≡ 7 → ⊥) → (n ≡ 8 → ⊥) →
+    (l ≡ false) × (f ≡ true)
+neither true f s e h7 h8 = absurd (h7 e)
+neither false true s e h7 h8 = (refl, refl)
+neither false false s e h7 h8 = absurd (h8 e)
+
+module _ (e : ℕ) (w : Way) {out left : List ℕ} {n : ℕ} (j : Hashes e (w .bytes) (w .closing) (w .bits) out n left) where
+  module _ (m : List Bool) (p : Passes e m w) where
+    -- a message that is passed is answered neither with 7 nor with 8
+    pub passed-taken : (n ≡ 7 → ⊥) × (n ≡ 8 → ⊥)
+    unfolding hashTests first
+    passed-taken =
+        other-numbers (not (known e)) (ltb (length out) (digestBytes e))
+        (j .answer ∙ rw (p .short, p .fits))
+
+    -- and with an edition that there is, and room for it, its digest is written
+    pub passed-hashed : known e ≡ true → digestBytes e ≤ length out → (n ≡ 0) × (left ≡ atFront (digest e m) out)
+    unfolding hashTests first hashed
+    passed-hashed k room =
+        let passed : first (hashTests e (w .bytes) (w .closing) (w .bits) out) ≡ 0 =
+        rw (k, p .short, p .fits, le-ltb (length out) (digestBytes e) room) in
+        (j .answer ∙ passed, j .leaves ∙ rw passed (ap (λ (l : List Bool). atFront (digest e l) out) (p .means)))
+
+  -- what is answered neither with 7 nor with 8, in an edition that there is, is a message that is passed
+  pub taken-passes : known e ≡ true → Bytes (w .bytes) → w .closing < 256 → (n ≡ 7 → ⊥) → (n ≡ 8 → ⊥) →
+      Passes e (message (w .bytes) (w .closing) (w .bits)) w
+  unfolding hashTests first
+  taken-passes k whole byte h7 h8 =
+      let both =
+      neither (tooLong e 0 (length (w .bytes))) (closingFits (w .closing) (w .bits)) (ltb (length out) (digestBytes e)) (j .answer ∙ rw k)
+      h7 h8 in
+      record { whole = whole; byte = byte; short = both .0; fits = both .1; means = refl }
