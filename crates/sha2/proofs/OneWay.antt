@@ -72,12 +72,6 @@ other-numbers true s e = (λ q. omega arith, λ q. omega arith)
 other-numbers false true e = (λ q. omega arith, λ q. omega arith)
 other-numbers false false e = (λ q. omega arith, λ q. omega arith)
 
-neither : (l f s : Bool) {n : ℕ} → n ≡ cond l 7 (cond (not f) 8 (cond s 9 0)) → (n ≡ 7 → ⊥) → (n ≡ 8 → ⊥) →
-    (l ≡ false) × (f ≡ true)
-neither true f s e h7 h8 = absurd (h7 e)
-neither false true s e h7 h8 = (refl, refl)
-neither false false s e h7 h8 = absurd (h8 e)
-
 module _ (e : ℕ) (w : Way) {out left : List ℕ} {n : ℕ} (j : Hashes e (w .bytes) (w .closing) (w .bits) out n left) where
   module _ (m : List Bool) (p : Passes e m w) where
     -- a message that is passed is answered neither with 7 nor with 8
@@ -96,11 +90,15 @@ module _ (e : ℕ) (w : Way) {out left : List ℕ} {n : ℕ} (j : Hashes e (w .b
         (j .answer ∙ passed, j .leaves ∙ rw passed (ap (λ (l : List Bool). atFront (digest e l) out) (p .means)))
 
   -- what is answered neither with 7 nor with 8, in an edition that there is, is a message that is passed
-  pub taken-passes : known e ≡ true → Bytes (w .bytes) → w .closing < 256 → (n ≡ 7 → ⊥) → (n ≡ 8 → ⊥) →
-      Passes e (message (w .bytes) (w .closing) (w .bits)) w
-  unfolding hashTests first
-  taken-passes k whole byte h7 h8 =
-      let both =
-      neither (tooLong e 0 (length (w .bytes))) (closingFits (w .closing) (w .bits)) (ltb (length out) (digestBytes e)) (j .answer ∙ rw k)
-      h7 h8 in
-      record { whole = whole; byte = byte; short = both .0; fits = both .1; means = refl }
+  module _ (k : known e ≡ true) (h7 : n ≡ 7 → ⊥) (h8 : n ≡ 8 → ⊥) where
+    neither : (l f : Bool) → tooLong e 0 (length (w .bytes)) ≡ l → closingFits (w .closing) (w .bits) ≡ f → (l ≡ false) × (f ≡ true)
+    unfolding hashTests first
+    neither true true p q = absurd (omega (arith, simp (k, p, q) at (j .answer), h7, h8))
+    neither true false p q = absurd (omega (arith, simp (k, p, q) at (j .answer), h7, h8))
+    neither false true p q = (refl, refl)
+    neither false false p q = absurd (omega (arith, simp (k, p, q) at (j .answer), h7, h8))
+
+    pub taken-passes : Bytes (w .bytes) → w .closing < 256 → Passes e (message (w .bytes) (w .closing) (w .bits)) w
+    taken-passes whole byte =
+        let both = neither (tooLong e 0 (length (w .bytes))) (closingFits (w .closing) (w .bits)) refl refl in
+        record { whole = whole; byte = byte; short = both .0; fits = both .1; means = refl }
