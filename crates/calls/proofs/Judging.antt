@@ -79,7 +79,7 @@ module _ (t : List ℕ) (i : ℕ) (r : Answer) (answered : numberOf r ≡ first 
 
   pub drop-stopped : Outcome t (dropping i) (numberOf r) t []
   unfolding tests
-  drop-stopped = refused (sym answered) (lt→ltb 0 (numberOf r) refusal) refl
+  drop-stopped = stopped (takenTests t i) _ answered refusal refl
 
 -- ---- past the gate
 
