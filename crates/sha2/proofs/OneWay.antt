@@ -1,16 +1,19 @@
 -- Every message of bits within the limit is passed in exactly one way that is refused neither with 7 nor with 8: `one-way`.
--- Every way that is not refused so passes a message within the limit: `passed-within`. Of hash at once: `passed-hashed`, `taken-passes`.
+-- What is not refused so is a message within the limit: `message-within`. Of hash at once: `passed-hashed` and `taken-passes`; of the
+-- function itself, by its own contract: `message-hashed` and `taken-within`.
 use Prim.Native.Nat.{ℕ, _/_, _≤_, _<_}
 use mathlib.Core.Bool.{Bool, true, false, not, cond}
 use mathlib.Core.List.{List}
 use mathlib.Core.Path.{_≡_, refl, sym, ap, _∙_}
 use native.Mathlib.Omega.{arith}
+use denote.Ref.{now}
 use lib.Dec.{ltb}
 use lib.ListN.{length}
 use borrow.Author.Tests.{le-ltb}
+use Rattle.contracts.specs.Says.{Made, exit}
 use Rattle.answers.specs.Judged.{first}
+use Rattle.answers.specs.Numbers.{numberOf}
 use Rattle.fips.specs.Editions.{known, digestBytes, digest}
-use Rattle.fips.specs.Message.{message}
 use Rattle.fips.proofs.Parts.{bitsBehind, bytesIn, closingIn, few-behind, bytesIn-bytes, length-bytesIn, closingIn-byte, closingIn-zeros}
 use Rattle.fips.proofs.Parts.{parts-message, message-wholes, message-bits, message-bytes, message-closing}
 use Rattle.slices.specs.AtFront.{atFront}
@@ -18,12 +21,20 @@ use Rattle.slices.specs.Below.{Bytes}
 use Rattle.sha2.specs.Closing.{closingFits}
 use Rattle.sha2.specs.Hash.{Hashes, hashTests, hashed}
 use Rattle.sha2.specs.Limit.{tooLong}
-use Rattle.sha2.specs.Passing.{Way, Within, Passes}
+use Rattle.sha2.specs.Passing.{Way, meant, Within, Passes}
 use Rattle.sha2.proofs.AtOnce.{closing-few, closing-zeros, closing-fits}
+use Rattle.sha2.proofs.hash.hash as hash
+use Rattle.sha2.proofs.hash.hash.Reads as hash-reads
 
 -- the way that the message itself tells
 abbrev pub wayOf : List Bool → Way
 wayOf m = record { bytes = bytesIn m; closing = closingIn m; bits = bitsBehind m }
+
+-- what is refused neither with 7 nor with 8 is a message within the limit
+pub message-within : (e : ℕ) (w : Way) → tooLong e 0 (length (w .bytes)) ≡ false → closingFits (w .closing) (w .bits) ≡ true →
+    Within e (meant w)
+message-within e w short fits =
+    ap (tooLong e 0) (message-wholes (w .bytes) (w .closing) (w .bits) (omega (arith, closing-few (w .closing) (w .bits) fits))) ∙ short
 
 module _ (e : ℕ) (m : List Bool) where
   pub message-passed : Within e m → Passes e m (wayOf m)
@@ -42,10 +53,7 @@ module _ (e : ℕ) (m : List Bool) where
 
     -- a message that is passed is within the limit
     pub passed-within : Within e m
-    passed-within =
-        ap (λ (l : List Bool). tooLong e 0 (length l / 8)) (sym (p .means))
-        ∙ ap (tooLong e 0) (message-wholes (w .bytes) (w .closing) (w .bits) few)
-        ∙ p .short
+    passed-within = ap (λ (l : List Bool). tooLong e 0 (length l / 8)) (sym (p .means)) ∙ message-within e w (p .short) (p .fits)
 
     -- and is so in the way that it tells
     passed-as : w ≡ wayOf m
@@ -98,7 +106,35 @@ module _ (e : ℕ) (w : Way) {out left : List ℕ} {n : ℕ} (j : Hashes e (w .b
     neither false true p q = (refl, refl)
     neither false false p q = absurd (omega (arith, simp (k, p, q) at (j .answer), h7, h8))
 
-    pub taken-passes : Bytes (w .bytes) → w .closing < 256 → Passes e (message (w .bytes) (w .closing) (w .bits)) w
-    taken-passes whole byte =
-        let both = neither (tooLong e 0 (length (w .bytes))) (closingFits (w .closing) (w .bits)) refl refl in
-        record { whole = whole; byte = byte; short = both .0; fits = both .1; means = refl }
+    both-pass : (tooLong e 0 (length (w .bytes)) ≡ false) × (closingFits (w .closing) (w .bits) ≡ true)
+    both-pass = neither (tooLong e 0 (length (w .bytes))) (closingFits (w .closing) (w .bits)) refl refl
+
+    pub taken-passes : Bytes (w .bytes) → w .closing < 256 → Passes e (meant w) w
+    taken-passes whole byte = record { whole = whole; byte = byte; short = both-pass .0; fits = both-pass .1; means = refl }
+
+-- ---- the function itself, by its own contract
+
+-- a call of `sha2::hash::hash` that was made: the edition, the way that it was lent, and the output before and after
+module _ (c : Made hash.ended hash-reads.Learnt) where
+  abbrev asked : ℕ
+  asked = c .args .0
+
+  abbrev lentWay : Way
+  lentWay = record { bytes = now (c .args .1 .0); closing = c .args .1 .1 .0; bits = c .args .1 .1 .1 .0 }
+
+  abbrev lentOut : List ℕ
+  lentOut = now (c .args .1 .1 .1 .1 .0)
+
+  abbrev leftOut : List ℕ
+  leftOut = now (exit c .1 .1 .1 .1 .0)
+
+  -- one that passes a message, in an edition that there is and with room for its digest, is done and writes that digest
+  pub message-hashed : (m : List Bool) → Passes asked m lentWay → known asked ≡ true → digestBytes asked ≤ length lentOut →
+      (numberOf (c .result) ≡ 0) × (leftOut ≡ atFront (digest asked m) lentOut)
+  message-hashed m = passed-hashed asked lentWay (c .learnt) m
+
+  -- one that answers neither 7 nor 8, in an edition that there is, was lent a message within the limit
+  pub taken-within : known asked ≡ true → (numberOf (c .result) ≡ 7 → ⊥) → (numberOf (c .result) ≡ 8 → ⊥) → Within asked (meant lentWay)
+  taken-within k h7 h8 =
+      let both = both-pass asked lentWay (c .learnt) k h7 h8 in
+      message-within asked lentWay (both .0) (both .1)

@@ -16,6 +16,10 @@ pub record Way : Type 0 where
   pub closing : ℕ
   pub bits : ℕ
 
+-- the bits that they are
+abbrev pub meant : Way → List Bool
+meant w = message (w .bytes) (w .closing) (w .bits)
+
 -- the message has no more whole bytes than the limit allows; fewer than eight bits behind them do not count
 abbrev pub Within : ℕ → List Bool → Type 0
 Within e m = tooLong e 0 (length m / 8) ≡ false
@@ -26,4 +30,4 @@ pub record Passes (e : ℕ) (m : List Bool) (w : Way) : Type 0 where
   pub byte : w .closing < 256
   pub short : tooLong e 0 (length (w .bytes)) ≡ false
   pub fits : closingFits (w .closing) (w .bits) ≡ true
-  pub means : message (w .bytes) (w .closing) (w .bits) ≡ m
+  pub means : meant w ≡ m
