@@ -42,7 +42,7 @@ count-one t v n r =
     elim v [
       | Verdict.Ok ↦ tally-eq listed (more-by-one (t .ok) (t .listed) (r .oks) (omega (arith, r .room))) (omega arith) (omega arith)
       | Verdict.Bad ↦ tally-eq listed (omega arith) (more-by-one (t .bad) (t .listed) (r .bads) (omega (arith, r .room))) (omega arith)
-      | Verdict.Missing ↦
+      | Verdict.Missing why ↦
           tally-eq listed (omega arith) (omega arith) (more-by-one (t .missing) (t .listed) (r .missings) (omega (arith, r .room)))
     ]
 
@@ -51,7 +51,7 @@ at-most-one v =
     elim v [
       | Verdict.Ok ↦ (omega arith, omega arith, omega arith)
       | Verdict.Bad ↦ (omega arith, omega arith, omega arith)
-      | Verdict.Missing ↦ (omega arith, omega arith, omega arith)
+      | Verdict.Missing why ↦ (omega arith, omega arith, omega arith)
     ]
 
 pub room-one : (t : Tally) (v : Verdict) (n : ℕ) → Room t (suc n) → Room (plus t (v ∷ [])) n

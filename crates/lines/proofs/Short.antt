@@ -27,7 +27,7 @@ use Rattle.lines.proofs.Counting.{at-most-one}
 
 word-short : (v : Verdict) → length (ascii (verdictWord v)) ≤ 8
 unfolding ascii
-word-short v = elim v [ Verdict.Ok ↦ omega arith | Verdict.Bad ↦ omega arith | Verdict.Missing ↦ omega arith ]
+word-short v = elim v [ Verdict.Ok ↦ omega arith | Verdict.Bad ↦ omega arith | Verdict.Missing why ↦ omega arith ]
 
 pub length-pairs : (bs : List ℕ) → length (readList bs .pairs) ≡ countIn bs
 unfolding readList

@@ -17,7 +17,7 @@ lineRoom = 128
 abbrev pub verdictWord : Verdict → String
 verdictWord Verdict.Ok = "OK "
 verdictWord Verdict.Bad = "BAD "
-verdictWord Verdict.Missing = "MISSING "
+verdictWord (Verdict.Missing why) = "MISSING "
 
 unfoldable pub lineOf : Verdict → List ℕ → List ℕ
 lineOf v name = ascii (verdictWord v) ++ name ++ ascii "\n"
@@ -45,17 +45,17 @@ notAList = ascii "NOT A LIST\n"
 abbrev pub isOk : Verdict → ℕ
 isOk Verdict.Ok = 1
 isOk Verdict.Bad = 0
-isOk Verdict.Missing = 0
+isOk (Verdict.Missing why) = 0
 
 abbrev pub isBad : Verdict → ℕ
 isBad Verdict.Ok = 0
 isBad Verdict.Bad = 1
-isBad Verdict.Missing = 0
+isBad (Verdict.Missing why) = 0
 
 abbrev pub isMissing : Verdict → ℕ
 isMissing Verdict.Ok = 0
 isMissing Verdict.Bad = 0
-isMissing Verdict.Missing = 1
+isMissing (Verdict.Missing why) = 1
 
 unfoldable pub sum : (Verdict → ℕ) → List Verdict → ℕ
 sum f [] = 0

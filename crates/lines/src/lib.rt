@@ -22,7 +22,19 @@ pub enum Verdict {
     // they have another, or are more than the limit
     Bad,
     // opening it or reading it failed
-    Missing,
+    Missing(Why),
+}
+
+// Why a file is missing.
+pub enum Why {
+    // no file of that name is there
+    NotThere,
+    // it may not be read
+    NoPermission,
+    // what has the name is a folder
+    Folder,
+    // opening it, or a read of it, failed in another way
+    Failed,
 }
 
 // How many files were judged, and how many of them each way.
@@ -39,7 +51,7 @@ fn verdict_word(verdict: Verdict, out: &mut [u8]) -> usize
     match verdict {
         Verdict::Ok => append(out, 0, b"OK "),
         Verdict::Bad => append(out, 0, b"BAD "),
-        Verdict::Missing => append(out, 0, b"MISSING "),
+        Verdict::Missing(_) => append(out, 0, b"MISSING "),
     }
 }
 
@@ -96,7 +108,7 @@ pub fn counted(tally: Tally, verdict: Verdict) -> Tally
         Verdict::Bad => {
             t.bad = more(t.bad);
         }
-        Verdict::Missing => {
+        Verdict::Missing(_) => {
             t.missing = more(t.missing);
         }
     }

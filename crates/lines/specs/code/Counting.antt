@@ -12,4 +12,4 @@ oneMore n = (n + 1) % 2 ^ 64
 unfoldable pub counted : Tally → Verdict → Tally
 counted t Verdict.Ok = record { listed = oneMore (t .listed); ok = oneMore (t .ok); bad = t .bad; missing = t .missing }
 counted t Verdict.Bad = record { listed = oneMore (t .listed); ok = t .ok; bad = oneMore (t .bad); missing = t .missing }
-counted t Verdict.Missing = record { listed = oneMore (t .listed); ok = t .ok; bad = t .bad; missing = oneMore (t .missing) }
+counted t (Verdict.Missing why) = record { listed = oneMore (t .listed); ok = t .ok; bad = t .bad; missing = oneMore (t .missing) }
