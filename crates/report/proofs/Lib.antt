@@ -1,4 +1,6 @@
+pub mod Answered
 pub mod Through
 pub mod Verdicts
+pub mod Pieces
 pub mod Whole
 pub mod Settled

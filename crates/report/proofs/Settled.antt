@@ -1,22 +1,34 @@
--- Two outcomes that one statement allows coincide, for each public function.
--- An outcome is what is answered, and the table that is left.
+-- Settled: two outcomes that a public function's own contract allows coincide. `Learnt` is that contract, made from src. An outcome is
+-- what is answered, and the table that is left.
 use Prim.Native.Nat.{ℕ}
-use mathlib.Core.Bool.{Bool}
 use mathlib.Core.List.{List}
-use mathlib.Core.Path.{_≡_, sym, _∙_}
-use Rattle.report.specs.declared.Ending.{Ending}
+use denote.Ref.{now}
+use Rattle.contracts.specs.Says.{Settles}
+use Rattle.contracts.proofs.Values.{value-settled, both-settled}
 use Rattle.lines.specs.declared.Verdict.{Verdict}
-use Rattle.lines.proofs.Settled.{both-settled}
-use Rattle.report.specs.code.Files.{begun, fits, afterPiece, endsAs, leftBy}
+use Rattle.report.specs.declared.Turn.{Turn}
+use Rattle.report.proofs.file.begin as begin
+use Rattle.report.proofs.file.begin.Reads as begin-reads
+use Rattle.report.proofs.file.turn as turn
+use Rattle.report.proofs.file.turn.Reads as turn-reads
+use Rattle.report.proofs.file.verdict as verdict
+use Rattle.report.proofs.file.verdict.Reads as verdict-reads
+use Rattle.report.proofs.reads.reason as reason
+use Rattle.report.proofs.reads.reason.Reads as reason-reads
+use Rattle.report.proofs.reads.brought as brought
+use Rattle.report.proofs.reads.brought.Reads as brought-reads
 
-module _ (t : List ℕ) (l m : List ℕ) where
-  pub begin-settled : (e : ℕ) → l ≡ begun t e → m ≡ begun t e → l ≡ m
-  begin-settled e p q = p ∙ sym q
+pub begin-settled : Settles begin.ended begin-reads.Learnt (λ κs r x. now (x .0))
+begin-settled κs a r s x y = value-settled
 
-  pub take-settled : (piece : List ℕ) (r s : Bool) → (r ≡ fits t piece) × (l ≡ afterPiece t piece) →
-      (s ≡ fits t piece) × (m ≡ afterPiece t piece) → (r ≡ s) × (l ≡ m)
-  take-settled piece r s p q = both-settled _ _ _ _ _ _ p q
+pub turn-settled : Settles {A = Turn × List ℕ} turn.ended turn-reads.Learnt (λ κs r x. (r, now (x .0)))
+turn-settled κs a r s x y = both-settled
 
-  pub verdict-settled : (d : Ending) (e : ℕ) (listed : List ℕ) (r s : Verdict) → (r ≡ endsAs d t e listed) × (l ≡ leftBy d t) →
-      (s ≡ endsAs d t e listed) × (m ≡ leftBy d t) → (r ≡ s) × (l ≡ m)
-  verdict-settled d e listed r s p q = both-settled _ _ _ _ _ _ p q
+pub verdict-settled : Settles {A = Verdict × List ℕ} verdict.ended verdict-reads.Learnt (λ κs r x. (r, now (x .1 .0)))
+verdict-settled κs a r s x y = both-settled
+
+pub reason-settled : Settles reason.ended reason-reads.Learnt (λ κs r x. r)
+reason-settled κs a r s x y = value-settled
+
+pub brought-settled : Settles brought.ended brought-reads.Learnt (λ κs r x. r)
+brought-settled κs a r s x y = value-settled

@@ -2,16 +2,39 @@
 use Prim.Native.Nat.{ℕ}
 use mathlib.Core.Bool.{Bool, cond}
 use mathlib.Core.List.{List, []}
-use mathlib.Core.Path.{_≡_, sym, ap, _∙_}
+use mathlib.Core.Path.{_≡_, refl, sym, ap, _∙_}
 use borrow.Author.Tests.{ne-eqb}
 use lib.Dec.{eqb}
-use lib.ListN.{take, replicate}
+use lib.IntN.{ℤ, pos, negsuc}
+use lib.ListN.{length, take, replicate}
 use Rattle.calls.specs.Calls.{layOut, opening, adding, closing, run, Outcome}
 use Rattle.calls.proofs.Runs.{runs}
 use Rattle.fips.specs.Editions.{digestBytes}
 use Rattle.slices.specs.Tests.{same}
+use Rattle.slices.proofs.Parts.{take-within}
+use Rattle.io.specs.Counts.{clamped}
 use Rattle.lines.specs.declared.Verdict.{Verdict}
-use Rattle.report.specs.code.Files.{begun, fits, afterPiece, afterClose, judged}
+use Rattle.report.specs.declared.Brought.{Brought}
+use Rattle.report.specs.declared.Ending.{Ending}
+use Rattle.report.specs.declared.Turn.{Turn}
+use Rattle.report.specs.Reads.{piece, brought}
+use Rattle.report.specs.code.Files.{begun, fits, afterPiece, turnOf, afterTurn, afterClose, judged}
+
+-- as many bytes as were counted are the piece
+counted-piece : (z : ℤ) (buffer : List ℕ) → take (clamped z (length buffer)) buffer ≡ piece z buffer
+counted-piece (pos n) buffer = take-within n buffer
+counted-piece (negsuc n) buffer = refl
+
+-- a read that brought bytes: they are taken, or reading ends
+pub piece-turn : (t buffer : List ℕ) (z e : ℤ) (n : ℕ) {q : Bool} {left : List ℕ} →
+    brought z e ≡ Brought.Bytes → n ≡ clamped z (length buffer) →
+    (q ≡ fits t (take n buffer)) × (left ≡ afterPiece t (take n buffer)) → (b : Bool) → q ≡ b →
+    (cond b Turn.GoesOn (Turn.Ends Ending.TooLong) ≡ turnOf t (piece z buffer) (brought z e))
+    × (left ≡ afterTurn t (piece z buffer) (brought z e))
+unfolding turnOf afterTurn
+piece-turn t buffer z e n is count taken b k =
+    let bytes : take n buffer ≡ piece z buffer = ap (λ (m : ℕ). take m buffer) count ∙ counted-piece z buffer in
+    rw (is, ← bytes, ← taken .0, k) (refl, taken .1)
 
 module _ {t : List ℕ} where
   pub begins : {mid left : List ℕ} {r s : ℕ} (e f : ℕ) → Outcome t (layOut 1) r mid [] → Outcome mid (opening 0 e) s left [] →

@@ -26,7 +26,8 @@ use Rattle.ledger.specs.Ledger.{Slot, nothing, entry, Entry, openedEntry, with,
 use Rattle.ledger.proofs.Follows.{Follows}
 use Rattle.ledger.proofs.Ledger.{laid, same-seen, still-follows, opened-digest}
 use Rattle.lines.specs.declared.Verdict.{Verdict}
-use Rattle.report.specs.code.Files.{begun, fits, afterPiece, judged, endsAs, said, AllBytes, joined}
+use Rattle.report.specs.declared.Ending.{Ending}
+use Rattle.report.specs.code.Files.{begun, fits, afterPiece, judged, endsAs, ending, afterAll, said, AllBytes, joined}
 use Rattle.report.specs.Report.{bytes, verdict}
 use Rattle.ledger.specs.Ledger.{entryLength}
 
@@ -106,12 +107,25 @@ module _ (L e : ℕ) (listed : List ℕ) where
         subst (λ (l : List Slot). Follows L (run t (adding 0 p) .table) l) (ledger .1) (still-follows f (adding 0 p) g),
       )
 
+  -- a piece more: what is said of the rest, or the end
+  said-on : (t p : List ℕ) (ps : List (List ℕ)) →
+      said t e listed (p ∷ ps) ≡ cond (fits t p) (said (afterPiece t p) e listed ps) Verdict.Bad
+  unfolding said ending afterAll endsAs
+  said-on t p ps = go (fits t p)
+    where
+      go : (b : Bool) →
+          endsAs (cond b (ending (afterPiece t p) ps) Ending.TooLong) (cond b (afterAll (afterPiece t p) ps) (afterPiece t p)) e listed
+          ≡ cond b (said (afterPiece t p) e listed ps) Verdict.Bad
+      go true = refl
+      go false = refl
+
   from-here : (ps : List (List ℕ)) (t m : List ℕ) → BayHolds t m → Bytes m → tooLong e 0 (length m) ≡ false → AllBytes ps →
       said t e listed ps ≡ verdict e listed (bytes (m ++ joined ps))
-  unfolding said joined endsAs
+  unfolding said ending afterAll joined endsAs
   from-here [] t m f b h g = at-end t m f b h ∙ ap (λ (l : List ℕ). verdict e listed (bytes l)) (sym (append-nil m))
   from-here (p ∷ ps) t m f b h g =
-      go (tooLong e (length m) (length p)) refl
+      said-on t p ps
+      ∙ go (tooLong e (length m) (length p)) refl
       (λ holds-more short. from-here ps (afterPiece t p) (m ++ p) holds-more (below-append m p b (g .0)) short (g .1))
     where
       go : (k : Bool) → tooLong e (length m) (length p) ≡ k →

@@ -53,7 +53,7 @@ module _ (files : List ℕ → File) (met : (name : List ℕ) → Met (files nam
   module _ (bs : List ℕ) (e : ℕ) (k : known e ≡ true) (is : e ≡ editionIn bs) where
     verdict-on : (i : ℕ) (f : File) → Met f → verdictOn bs i f ≡ verdict e (pairIn i bs .digest) (came f)
     unfolding verdictOn verdict
-    verdict-on i unread g = refl
+    verdict-on i (unread why) g = refl
     verdict-on i (pieces words ps) g = rw (← is) (file-verdict words e (pairIn i bs .digest) ps (g .0) k (g .1))
 
     pair-on : (i : ℕ) → i < length (readList bs .pairs) → drop i (readList bs .pairs) ≡ pairIn i bs ∷ drop (i + 1) (readList bs .pairs)
@@ -101,7 +101,7 @@ module _ (files : List ℕ → File) (met : (name : List ℕ) → Met (files nam
       cond (accepted (readUpTo n f)) (writes files (readUpTo n f) 0 (countIn (readUpTo n f)) nothingCounted) notAList
       ≡ byList folder (came f)
   unfolding byList
-  by-list n no-list unread = rw no-bytes
+  by-list n no-list (unread why) = rw no-bytes
   by-list n no-list (pieces words ps) = go (leb (length (joined ps)) n) refl
     where
       bs : List ℕ

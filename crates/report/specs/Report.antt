@@ -12,16 +12,17 @@ use Rattle.slices.specs.Tests.{same}
 use Rattle.lists.specs.Layout.{readList, accepted}
 use Rattle.lists.specs.Lists.{Pair, DigestList}
 use Rattle.lines.specs.declared.Verdict.{Verdict}
+use Rattle.lines.specs.declared.Why.{Why}
 use Rattle.lines.specs.Lines.{lineOf, countLine, notAList, tallyOf}
 
--- what comes of a name: the bytes of the file, where one of that name can be opened and read to its end
+-- what comes of a name: the bytes of the file, where one of that name can be opened and read to its end, and else the reason
 pub data Came : Type 0 where
-  noFile : Came
+  noFile : Why → Came
   bytes : List ℕ → Came
 
 -- MISSING where no file came; BAD where it is too long, or its digest is not the one listed
 unfoldable pub verdict : ℕ → List ℕ → Came → Verdict
-verdict edition listed noFile = Verdict.Missing
+verdict edition listed (noFile why) = Verdict.Missing why
 verdict edition listed (bytes m) =
     cond (not (tooLong edition 0 (length m)) && same (digest edition (message m 0 0)) listed) Verdict.Ok Verdict.Bad
 
@@ -41,7 +42,7 @@ report folder l = fileLines folder (l .edition) (l .pairs) ++ countLine (tallyOf
 
 -- where no list can be read there is one line; bytes that are more than the longest list has are none, `list-short`
 unfoldable pub byList : (List ℕ → Came) → Came → List ℕ
-byList folder noFile = notAList
+byList folder (noFile why) = notAList
 byList folder (bytes bs) = cond (accepted bs) (report folder (readList bs)) notAList
 
 unfoldable pub output : (List ℕ → Came) → List ℕ

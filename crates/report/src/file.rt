@@ -3,8 +3,12 @@
 ghost use mathlib.Core.Path.{_≡_};
 ghost use Rattle.lists.specs.Calls.{pairIn};
 ghost use Rattle.lists.specs.Layout.{editionIn};
-ghost use Rattle.report.specs.code.Files.{begun, afterPiece, fits, judged, afterClose, endsAs, leftBy};
+ghost use Rattle.report.specs.Reads.{piece, brought};
+ghost use Rattle.report.specs.code.Files.{begun, afterPiece, fits, turnOf, afterTurn, judged, afterClose, endsAs, leftBy};
+use crate::Brought;
 use crate::Ending;
+use crate::Turn;
+use crate::reads;
 use lines::Verdict;
 use lists::entries;
 
@@ -17,11 +21,31 @@ pub fn begin(table: &mut [u64], list: &[u8])
 }
 
 // Whether the piece was taken: one that makes the file longer than the limit is not.
-pub fn take(table: &mut [u64], piece: &[u8]) -> bool
+fn take(table: &mut [u64], piece: &[u8]) -> bool
     ensures { λ r. ⌜ r ≡ fits (now (table .entry)) (now (piece .entry)) ⌝ }
     ensures { λ _. ⌜ now (table .exit) ≡ afterPiece (now (table .entry)) (now (piece .entry)) ⌝ }
 {
     answers::number(calls::add(table, 0, piece)) == 0
+}
+
+// What a read into a buffer answered is seen to: its bytes are taken, or reading ends.
+pub fn turn(table: &mut [u64], buffer: &[u8], got: isize, errno: i32) -> Turn
+    ensures { λ r. ⌜ r ≡ turnOf (now (table .entry)) (piece got (now (buffer .entry))) (brought got errno) ⌝ }
+    ensures { λ _. ⌜ now (table .exit) ≡ afterTurn (now (table .entry)) (piece got (now (buffer .entry))) (brought got errno) ⌝ }
+{
+    match reads::brought(got, errno) {
+        Brought::Bytes => {
+            let n = io::count(got, buffer);
+            if take(table, &buffer[..n]) {
+                Turn::GoesOn
+            } else {
+                Turn::Ends(Ending::TooLong)
+            }
+        }
+        Brought::End => Turn::Ends(Ending::Whole),
+        Brought::Again => Turn::GoesOn,
+        Brought::Nothing(why) => Turn::Ends(Ending::Unread(why)),
+    }
 }
 
 // Closes the bay, and compares the digest with the one of that number in the list.
@@ -50,6 +74,6 @@ pub fn verdict(ending: Ending, table: &mut [u64], list: &[u8], i: usize) -> Verd
     match ending {
         Ending::Whole => judge(table, list, i),
         Ending::TooLong => Verdict::Bad,
-        Ending::Unread => Verdict::Missing,
+        Ending::Unread(why) => Verdict::Missing(why),
     }
 }

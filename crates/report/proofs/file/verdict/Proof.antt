@@ -15,7 +15,7 @@ returns-2 c = rw (c .enum-told2 .given .1) (refl, refl)
 
 returns-3 : tie.Need-returns-3
 unfolding endsAs leftBy
-returns-3 c = rw (c .enum-told3 .given .1) (refl, refl)
+returns-3 c = rw (c .before .ending .given .1) (refl, refl)
 
 pub verdict-spec : {M : Type 1} → statement M
 verdict-spec =
