@@ -4,11 +4,8 @@ use Prim.Native.Nat.{ℕ}
 use mathlib.Core.Bool.{Bool, true, false, cond}
 use mathlib.Core.List.{List, [], _∷_, _++_}
 use mathlib.Core.Path.{_≡_, refl, sym, ap, subst, _∙_}
-use native.Mathlib.Omega.{arith}
-use lib.IntN.{ℤ, pos, negsuc}
 use lib.ListN.{length}
 use Rattle.slices.specs.Below.{Bytes}
-use Rattle.slices.proofs.Below.{below-nil, below-take}
 use Rattle.fips.specs.Editions.{known}
 use Rattle.lists.specs.Calls.{pairIn}
 use Rattle.lists.specs.Layout.{editionIn, readList, accepted}
@@ -20,7 +17,6 @@ use Rattle.lines.specs.declared.Why.{Why}
 use Rattle.report.specs.declared.Brought.{Brought}
 use Rattle.report.specs.declared.Ending.{Ending}
 use Rattle.report.specs.declared.Turn.{Turn}
-use Rattle.report.specs.Reads.{piece}
 use Rattle.report.specs.Report.{verdict}
 use Rattle.report.specs.code.Files.{begun, fits, afterPiece, turnOf, afterTurn, endsAs, ending, afterAll, said, AllBytes, upToFailure, Reading}
 use Rattle.report.specs.code.Program.{File, unread, pieces, Led, Verdicted, verdictOn}
@@ -116,17 +112,13 @@ module _ (t : List ℕ) where
     stops e Brought.Again h a = absurd (subst GoesOn (sym h) tt)
     stops e (Brought.Nothing why) h a = rw (a, ap endOf h) (breaks-off why r)
 
--- the bytes that a read put at the front of a buffer of bytes
-pub piece-bytes : (z : ℤ) (buffer : List ℕ) → Bytes buffer → Bytes (piece z buffer)
-piece-bytes (pos n) buffer b = below-take n buffer b
-piece-bytes (negsuc n) buffer b = below-nil 256 (omega arith)
-
 -- ---- the file that was met
 
-pub led : (words : List ℕ) (e : ℕ) (end : Ending) (left : List ℕ) → Reading (begun words e) end left → (f : File) × Led words e f end left
-led words e Ending.Whole left r = (pieces words (r .met), (refl, r .bytes, sym (r .ends), r .leaves))
-led words e Ending.TooLong left r = (pieces words (r .met), (refl, r .bytes, sym (r .ends), r .leaves))
-led words e (Ending.Unread why) left r = (unread why, refl)
+pub led : (words : List ℕ) (e : ℕ) {t : List ℕ} → t ≡ begun words e → (end : Ending) (left : List ℕ) → Reading t end left →
+    (f : File) × Led words e f end left
+led words e b Ending.Whole left r = (pieces words (r .met), rw (← b) (refl, r .bytes, sym (r .ends), r .leaves))
+led words e b Ending.TooLong left r = (pieces words (r .met), rw (← b) (refl, r .bytes, sym (r .ends), r .leaves))
+led words e b (Ending.Unread why) left r = (unread why, refl)
 
 edition-known : (bs : List ℕ) → accepted bs ≡ true → known (editionIn bs) ≡ true
 unfolding readList

@@ -22,7 +22,7 @@ pub begin-settled : Settles begin.ended begin-reads.Learnt (λ κs r x. now (x .
 begin-settled κs a r s x y = value-settled
 
 pub turn-settled : Settles {A = Turn × List ℕ} turn.ended turn-reads.Learnt (λ κs r x. (r, now (x .0)))
-turn-settled κs a r s x y = both-settled
+turn-settled κs a r s x y p q = both-settled (p .0, p .1 .0) (q .0, q .1 .0)
 
 pub verdict-settled : Settles {A = Verdict × List ℕ} verdict.ended verdict-reads.Learnt (λ κs r x. (r, now (x .1 .0)))
 verdict-settled κs a r s x y = both-settled

@@ -3,6 +3,7 @@ use Prim.Native.Nat.{ℕ}
 use mathlib.Core.Bool.{Bool, cond}
 use mathlib.Core.List.{List, []}
 use mathlib.Core.Path.{_≡_, refl, sym, ap, _∙_}
+use native.Mathlib.Omega.{arith}
 use borrow.Author.Tests.{ne-eqb}
 use lib.Dec.{eqb}
 use lib.IntN.{ℤ, pos, negsuc}
@@ -11,6 +12,8 @@ use Rattle.calls.specs.Calls.{layOut, opening, adding, closing, run, Outcome}
 use Rattle.calls.proofs.Runs.{runs}
 use Rattle.fips.specs.Editions.{digestBytes}
 use Rattle.slices.specs.Tests.{same}
+use Rattle.slices.specs.Below.{Bytes}
+use Rattle.slices.proofs.Below.{below-nil, below-take}
 use Rattle.slices.proofs.Parts.{take-within}
 use Rattle.io.specs.Counts.{clamped}
 use Rattle.lines.specs.declared.Verdict.{Verdict}
@@ -24,6 +27,11 @@ use Rattle.report.specs.code.Files.{begun, fits, afterPiece, turnOf, aft
 counted-piece : (z : ℤ) (buffer : List ℕ) → take (clamped z (length buffer)) buffer ≡ piece z buffer
 counted-piece (pos n) buffer = take-within n buffer
 counted-piece (negsuc n) buffer = refl
+
+-- a piece of a buffer of bytes
+pub piece-bytes : (z : ℤ) (buffer : List ℕ) → Bytes buffer → Bytes (piece z buffer)
+piece-bytes (pos n) buffer b = below-take n buffer b
+piece-bytes (negsuc n) buffer b = below-nil 256 (omega arith)
 
 -- a read that brought bytes: they are taken, or reading ends
 pub piece-turn : (t buffer : List ℕ) (z e : ℤ) (n : ℕ) {q : Bool} {left : List ℕ} →

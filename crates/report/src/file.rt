@@ -1,6 +1,7 @@
 // A file through the first bay of a table: begun, its pieces taken one after the other, and judged at its end, SPEC, "The program".
 // The caller's table has room for one bay; each contract says what is left of it.
 ghost use mathlib.Core.Path.{_≡_};
+ghost use Rattle.slices.specs.Below.{Bytes};
 ghost use Rattle.lists.specs.Calls.{pairIn};
 ghost use Rattle.lists.specs.Layout.{editionIn};
 ghost use Rattle.report.specs.Reads.{piece, brought};
@@ -28,10 +29,11 @@ fn take(table: &mut [u64], piece: &[u8]) -> bool
     answers::number(calls::add(table, 0, piece)) == 0
 }
 
-// What a read into a buffer answered is seen to: its bytes are taken, or reading ends.
+// What a read into a buffer answered is seen to: its bytes are taken, or reading ends. The caller is told that they are bytes.
 pub fn turn(table: &mut [u64], buffer: &[u8], got: isize, errno: i32) -> Turn
     ensures { λ r. ⌜ r ≡ turnOf (now (table .entry)) (piece got (now (buffer .entry))) (brought got errno) ⌝ }
     ensures { λ _. ⌜ now (table .exit) ≡ afterTurn (now (table .entry)) (piece got (now (buffer .entry))) (brought got errno) ⌝ }
+    ensures { λ _. ⌜ Bytes (piece got (now (buffer .entry))) ⌝ }
 {
     match reads::brought(got, errno) {
         Brought::Bytes => {

@@ -3,6 +3,7 @@
 // closed, and lines are written. Its memory is one list, one piece, one bay and one line, however long the files are.
 mod reading;
 
+ghost use Rattle.report.specs.code.Program.{Verdicted};
 use lines::Tally;
 use lines::Verdict;
 use lists::entries;
@@ -17,7 +18,9 @@ fn write(out: &[u8], n: usize) -> bool {
     io::write_all(1, &out[0..n])
 }
 
-fn verdict(list: &[u8], i: usize, table: &mut [u64]) -> Verdict {
+fn verdict(list: &[u8], i: usize, table: &mut [u64]) -> Verdict
+    ensures { λ r. ⌜ Verdicted (now (list .entry)) i (now (table .entry)) r ⌝ }
+{
     let ending = reading::through(entries::name(list, i), list, table);
     file::verdict(ending, table, list, i)
 }

@@ -2,15 +2,15 @@
 // signal interrupts has failed only for that turn. Nothing says that a file ends, so each loop counts its turns down, from a number that
 // no run uses up.
 ghost use Rattle.io.specs.Counts.{Counts};
+ghost use Rattle.lists.specs.Layout.{editionIn};
+ghost use Rattle.report.specs.code.Files.{Reading};
+ghost use Rattle.report.specs.code.Program.{File, Led};
+use lines::Why;
+use report::Brought;
 use report::Ending;
+use report::Turn;
 use report::file;
-
-fn failed(got: isize) -> bool {
-    if got >= 0 {
-        return false;
-    }
-    os::errno() != libc::EINTR
-}
+use report::reads;
 
 // The rest of the file at the front of a buffer, as much as there is room for, and how many bytes that is; none where a read fails.
 fn rest(fd: i32, buffer: &mut [u8]) -> usize
@@ -20,10 +20,11 @@ fn rest(fd: i32, buffer: &mut [u8]) -> usize
     let mut turns = u64::MAX;
     while turns > 0 {
         let got = libc::read(fd, &mut buffer[n..]);
-        if failed(got) {
+        let what = reads::brought(got, os::errno());
+        if let Brought::Nothing(_) = what {
             return 0;
         }
-        if got == 0 {
+        if let Brought::End = what {
             return n;
         }
         n += io::count(got, &buffer[n..]);
@@ -45,32 +46,30 @@ pub(crate) fn whole(name: &[u8], buffer: &mut [u8]) -> usize
     n
 }
 
-// Takes the rest of the file, piece by piece. An interrupted read brings a piece of no bytes, which changes nothing.
-fn pieces(fd: i32, table: &mut [u64]) -> Ending {
+// Takes the rest of the file, piece by piece.
+fn pieces(fd: i32, table: &mut [u64]) -> Ending
+    ensures { λ r. ⌜ Reading (now (table .entry)) r (now (table .exit)) ⌝ }
+{
     let mut piece = [0u8; 4096];
     let mut turns = u64::MAX;
     while turns > 0 {
         let got = libc::read(fd, &mut piece);
-        if failed(got) {
-            return Ending::Unread;
-        }
-        if got == 0 {
-            return Ending::Whole;
-        }
-        let n = io::count(got, &piece);
-        if !file::take(table, &piece[..n]) {
-            return Ending::TooLong;
+        if let Turn::Ends(ending) = file::turn(table, &piece, got, os::errno()) {
+            return ending;
         }
         turns -= 1;
     }
-    Ending::Unread
+    Ending::Unread(Why::Failed)
 }
 
 // Leads a file through the bay of the table, in the list's edition.
-pub(crate) fn through(name: &[u8], list: &[u8], table: &mut [u64]) -> Ending {
+pub(crate) fn through(name: &[u8], list: &[u8], table: &mut [u64]) -> Ending
+    ensures { λ r.
+        ⌜ ((f : File) × Led (now (table .entry)) (editionIn (now (list .entry))) f r (now (table .exit))) ⌝ }
+{
     let fd = os::open_read(name);
     if fd < 0 {
-        return Ending::Unread;
+        return Ending::Unread(reads::reason(os::errno()));
     }
     file::begin(table, list);
     let ending = pieces(fd, table);
