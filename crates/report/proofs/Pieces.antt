@@ -98,19 +98,27 @@ module _ (t : List ℕ) where
     end-piece e true k h = absurd (subst GoesOn (sym h) tt)
     end-piece e false k h = more e (rw (k, ap endOf h))
 
-    pub goes-on : (b : Brought) → Turn.GoesOn ≡ turnOf left p b → {after : List ℕ} → after ≡ afterTurn left p b → Reading t Ending.Whole after
+    on : (b : Brought) → Turn.GoesOn ≡ turnOf left p b → {after : List ℕ} → after ≡ afterTurn left p b → Reading t Ending.Whole after
     unfolding turnOf afterTurn
-    goes-on Brought.Bytes h a = rw a (on-piece (fits left p) refl h)
-    goes-on Brought.End h a = absurd (subst GoesOn h tt)
-    goes-on Brought.Again h a = rw a r
-    goes-on (Brought.Nothing why) h a = absurd (subst GoesOn h tt)
+    on Brought.Bytes h a = rw a (on-piece (fits left p) refl h)
+    on Brought.End h a = absurd (subst GoesOn h tt)
+    on Brought.Again h a = rw a r
+    on (Brought.Nothing why) h a = absurd (subst GoesOn h tt)
 
-    pub stops : (e : Ending) (b : Brought) → Turn.Ends e ≡ turnOf left p b → {after : List ℕ} → after ≡ afterTurn left p b → Reading t e after
+    pub goes-on : (turn : Turn) (b : Brought) → turn ≡ Turn.GoesOn → turn ≡ turnOf left p b →
+        {after : List ℕ} → after ≡ afterTurn left p b → Reading t Ending.Whole after
+    goes-on turn b k h a = on b (sym k ∙ h) a
+
+    end : (e : Ending) (b : Brought) → Turn.Ends e ≡ turnOf left p b → {after : List ℕ} → after ≡ afterTurn left p b → Reading t e after
     unfolding turnOf afterTurn
-    stops e Brought.Bytes h a = rw a (end-piece e (fits left p) refl h)
-    stops e Brought.End h a = rw (a, ap endOf h) r
-    stops e Brought.Again h a = absurd (subst GoesOn (sym h) tt)
-    stops e (Brought.Nothing why) h a = rw (a, ap endOf h) (breaks-off why r)
+    end e Brought.Bytes h a = rw a (end-piece e (fits left p) refl h)
+    end e Brought.End h a = rw (a, ap endOf h) r
+    end e Brought.Again h a = absurd (subst GoesOn (sym h) tt)
+    end e (Brought.Nothing why) h a = rw (a, ap endOf h) (breaks-off why r)
+
+    pub stops : (e : Ending) (turn : Turn) (b : Brought) → turn ≡ Turn.Ends e → turn ≡ turnOf left p b →
+        {after : List ℕ} → after ≡ afterTurn left p b → Reading t e after
+    stops e turn b k h a = end e b (sym k ∙ h) a
 
 -- ---- the file that was met
 

@@ -1,5 +1,6 @@
--- The program step by step, over what it meets in a folder: SPEC, "The program". That this is `output` is the theorem `program-output`;
--- that the program takes these steps is read, since no contract of the C library says which bytes are read or written.
+-- The program step by step, over what it meets in a folder: SPEC, "The program". That this is `output` is the theorem `program-output`.
+-- The verdict on a file is what the program's contract states, `Verdicted`; that it goes through the entries in order and writes these
+-- lines is read, and so is which file it met, since no contract of the C library says which bytes are read or written.
 use Prim.Native.Nat.{ℕ, zero, suc, _+_}
 use mathlib.Core.Bool.{true, cond}
 use mathlib.Core.List.{List, [], _++_}
@@ -18,8 +19,8 @@ use Rattle.lines.specs.code.Counting.{nothingCounted, counted}
 use Rattle.report.specs.Report.{Came, noFile, bytes, verdict}
 use Rattle.report.specs.code.Files.{begun, ending, afterAll, said, AllBytes, joined}
 
--- a file as it is met: not opened, or not read to its end; or the pieces that reads bring, up to the first that is not taken, and the words
--- that lie where its table is laid out
+-- a file as it is met: not opened, or not read to its end, and why; or the pieces that reads bring, up to the first that is not taken, and
+-- the words that lie where its table is laid out
 pub data File : Type 0 where
   unread : Why → File
   pieces : (words : List ℕ) (ps : List (List ℕ)) → File

@@ -1,5 +1,5 @@
 -- `yardcheck::reading::pieces` meets its contract: each turn of the loop is one of a reading, and its measure is how many are left.
-use mathlib.Core.Path.{_≡_, refl, sym, _∙_}
+use mathlib.Core.Path.{_≡_, refl}
 use lib.ListN.{length}
 use borrow.Author.Needs.{needs}
 use Rattle.report.specs.declared.Ending.{Ending}
@@ -15,24 +15,20 @@ Inv-loop fd table₀ piece₀ turns₀ table piece turns =
 abbrev μ-loop : tie.MeasureT-loop
 μ-loop fd table₀ piece₀ turns₀ table piece turns = turns
 
--- the reading that the turn goes on with
-abbrev before : tie.After-turn Inv-loop μ-loop → tie.At-loop Inv-loop μ-loop
-before t = t .before .before .before .before .before .before .before .before
+abbrev begun : tie.After-turn Inv-loop μ-loop → tie.At-loop Inv-loop μ-loop
+begun t = t .before .before .before .before .before .before .before .before
 
 returns : tie.Need-returns Inv-loop μ-loop
 returns c =
     let t = c .before .before .before .before .before in
-    stops _ (before t .loop .inv .2) _ (t .turn .ensures .1 .1) _ _ (sym (c .before .ending .given .1) ∙ t .turn .ensures .0)
-    (t .turn .ensures .1 .0)
+    let is = t .turn .ensures in
+    stops _ (begun t .loop .inv .2) _ (is .1 .1) _ _ _ (c .before .ending .given .1) (is .0) (is .1 .0)
 
 loop-again : tie.Need-loop-again Inv-loop μ-loop
 loop-again c =
-    let t = c .before .before .before .before in (
-      search needs,
-      search needs,
-      goes-on _ (before t .loop .inv .2) _ (t .turn .ensures .1 .1) _ (sym (c .enum-told .given .1) ∙ t .turn .ensures .0)
-          (t .turn .ensures .1 .0),
-    )
+    let t = c .before .before .before .before in
+    let is = t .turn .ensures in
+    (search needs, search needs, goes-on _ (begun t .loop .inv .2) _ (is .1 .1) _ _ (c .enum-told .given .1) (is .0) (is .1 .0))
 
 pub pieces-spec : {M : Type 1} → statement M
 pieces-spec =
