@@ -83,7 +83,7 @@ module _ (L : ℕ) (l : List Slot) (ready : Ready L l) where
 state-sound : (a : Entry) → Fine a → sound (stateOf a) ≡ true
 state-sound a f = facts-sound (stateOf a) (state-shaped a f) (state-facts a f)
 
-state-loads : (a : Entry) → Fine a → (loaded (entryRecord a) ≡ stateOf a) × (isRecord (entryRecord a) ≡ true)
+pub state-loads : (a : Entry) → Fine a → (loaded (entryRecord a) ≡ stateOf a) × (isRecord (entryRecord a) ≡ true)
 state-loads a f = rw (record-entry a f) (saved-loads (stateOf a) (state-sound a f) (state-shaped a f))
 
 same-state : (a b : Entry) → Fine a → Fine b → entryRecord a ≡ entryRecord b → stateOf a ≡ stateOf b

@@ -9,3 +9,4 @@ pub mod CallersWords
 pub mod Traces
 pub mod Ends
 pub mod Traced
+pub mod Client
