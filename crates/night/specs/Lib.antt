@@ -1,0 +1,3 @@
+-- The night of the accident.
+pub mod Night
+pub mod code
