@@ -3,27 +3,22 @@
 use Prim.Native.Nat.{ℕ, _≤_, _<_}
 use mathlib.Core.Bool.{true, false}
 use mathlib.Core.List.{List}
-use mathlib.Core.Path.{_≡_, refl, sym, ap, subst, _∙_}
+use mathlib.Core.Path.{_≡_, refl, sym, ap, _∙_}
 use native.Mathlib.Omega.{arith}
 use lib.Dec.{lt→ltb}
-use lib.ListN.{length, take, drop}
-use lib.Seq.{take-at}
+use lib.ListN.{length, take}
 use borrow.Author.Tests.{le-leb, lt-leb, not-false, ltb-false}
 use Rattle.answers.specs.Judged.{Judged, first}
 use Rattle.answers.proofs.Outcome.{refused, done}
 use Rattle.answers.proofs.Refusals.{stopped, went-on}
 use Rattle.answers.proofs.Tests.{passed}
-use Rattle.slices.specs.AtFront.{atFront}
-use Rattle.slices.specs.Below.{Bytes}
 use Rattle.slices.specs.Parts.{part}
 use Rattle.slices.specs.Tests.{holds}
-use Rattle.slices.proofs.AtFront.{atFront-room}
-use Rattle.slices.proofs.Below.{below-take}
 use Rattle.bays.specs.Table.{roomFor}
-use Rattle.ledger.specs.Ledger.{slotRecord}
+use Rattle.ledger.specs.Ends.{recordOfMessage}
 use Rattle.night.specs.Night.{Digests, roomTests, fileTests, outputTests, recordRoom, fileDigests, Night}
-use Rattle.night.specs.code.Held.{holding, Fitting, Roomy}
-use Rattle.night.proofs.Story.{pieces-fit, record-size}
+use Rattle.night.specs.code.Held.{Fitting, Roomy}
+use Rattle.night.proofs.Story.{pieces-fit}
 
 -- ---- room for three bays
 
@@ -60,10 +55,6 @@ roomy e size saved out z =
 
 -- ---- the outcome
 
--- the front of what was saved is the record
-front-saved : (bytes out : List ℕ) (n : ℕ) → length bytes ≡ n → n ≤ length out → part (atFront bytes out) 0 n ≡ bytes
-front-saved bytes out n e h = rw (atFront-room bytes out (omega arith)) (take-at bytes (drop (length bytes) out) n e)
-
 module _ (table anew : List ℕ) (e : ℕ) (a : List ℕ) (cut : ℕ) (b c saved : List ℕ) (out : Digests) {n : ℕ} where
   pub no-tables : n ≡ first (roomTests table anew) → 0 < n → Night table anew e a cut b c saved out n out
   no-tables p q = stopped (roomTests table anew) _ p q refl
@@ -87,25 +78,19 @@ module _ (table anew : List ℕ) (e : ℕ) (a : List ℕ) (cut : ℕ) (b c saved
   no-outputs {n} p q = judged-outputs (refused (sym p) (lt→ltb 0 n q) refl)
 
   -- the evening leaves the record of what had come of the first file, and from that the morning goes on
-  pub whole-night : (b1 c1 saved1 front : List ℕ) (left : Digests) → b1 ≡ part b 0 cut → c1 ≡ part c 0 cut → Bytes a →
+  pub whole-night : (b1 c1 saved1 front : List ℕ) (left : Digests) → b1 ≡ part b 0 cut → c1 ≡ part c 0 cut →
       first (outputTests e size saved out) ≡ 0 →
       (roomFor 3 (length table) ≡ true → Fitting e half b1 c1 → recordRoom e (length half) ≤ length saved →
-      saved1 ≡ atFront (slotRecord (holding e half)) saved) →
+      take (recordRoom e (length half)) saved1 ≡ recordOfMessage e half) →
       front ≡ part saved1 0 size →
-      (roomFor 3 (length anew) ≡ true → Fitting e a b c → front ≡ slotRecord (holding e (take cut a)) → Roomy e out →
+      (roomFor 3 (length anew) ≡ true → Fitting e a b c → front ≡ recordOfMessage e (take cut a) → Roomy e out →
       left ≡ fileDigests e a b c out) →
       Night table anew e a cut b c saved out 0 left
-  whole-night b1 c1 saved1 front left isB isC all outputs evening isFront morning =
+  whole-night b1 c1 saved1 front left isB isC outputs evening isFront morning =
       let room = both-room table anew rooms in
       let fit = fitting e a b c files in
       let out-room = roomy e size saved out outputs in
-      let pieces = pieces-fit e cut fit isHalf isB isC in
-      let halfBytes : Bytes half = subst Bytes (sym isHalf) (below-take cut a all) in
-      let long = record-size e (fit .isKnown) half halfBytes (pieces .shortA) in
-      let kept = evening (room .0) pieces (omega (arith, out-room .0)) in
-      let back : front ≡ slotRecord (holding e (take cut a)) =
-      isFront
-      ∙ ap (λ (m : List ℕ). part m 0 size) kept
-      ∙ front-saved (slotRecord (holding e half)) saved size (long ∙ sym isSize) (out-room .0)
-      ∙ ap (λ (m : List ℕ). slotRecord (holding e m)) isHalf in
+      let kept = evening (room .0) (pieces-fit e cut fit isHalf isB isC) (omega (arith, out-room .0)) in
+      let back : front ≡ recordOfMessage e (take cut a) =
+      isFront ∙ ap (λ (k : ℕ). take k saved1) isSize ∙ kept ∙ ap (recordOfMessage e) isHalf in
       judged-outputs (done outputs (morning (room .1) fit back (out-room .1)))

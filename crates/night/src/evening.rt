@@ -3,11 +3,11 @@ ghost use mathlib.Core.Bool.{true};
 ghost use mathlib.Core.List.{[]};
 ghost use mathlib.Core.Path.{_≡_};
 ghost use Prim.Native.Nat.{_≤_};
-ghost use lib.ListN.{length};
+ghost use lib.ListN.{length, take};
 ghost use Rattle.fips.specs.Editions.{known};
-ghost use Rattle.slices.specs.AtFront.{atFront};
 ghost use Rattle.bays.specs.Table.{roomFor};
-ghost use Rattle.ledger.specs.Ledger.{nothing, slotRecord};
+ghost use Rattle.ledger.specs.Ledger.{nothing};
+ghost use Rattle.ledger.specs.Ends.{recordOfMessage};
 ghost use Rattle.night.specs.Night.{recordRoom};
 ghost use Rattle.night.specs.code.Held.{holding, Held, Fitting};
 
@@ -33,7 +33,7 @@ pub(crate) fn evening(
     ensures { λ _.
         ⌜ (roomFor 3 (length (now (table .entry))) ≡ true → Fitting edition (now (a .entry)) (now (b .entry)) (now (c .entry)) →
         recordRoom edition (length (now (a .entry))) ≤ length (now (saved .entry)) →
-        now (saved .exit) ≡ atFront (slotRecord (holding edition (now (a .entry)))) (now (saved .entry))) ⌝ }
+        take (recordRoom edition (length (now (a .entry)))) (now (saved .exit)) ≡ recordOfMessage edition (now (a .entry))) ⌝ }
 {
     laid(table, edition);
     calls::open(table, 0, edition);

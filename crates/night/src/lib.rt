@@ -1,5 +1,5 @@
-// The night of the accident, as a client of the calls: three files are taken alternately, one of them is saved half-read, the table is lost,
-// and in the morning every file gets its digest. SPEC, "The table of bays" and "The saved record".
+// The night of the accident, as a client of the calls: three files are taken alternately, one of them is saved half-read, the table is
+// lost, and in the morning every file gets its digest. SPEC, "The table of bays" and "The saved record".
 ghost use Rattle.answers.specs.Numbers.{numberOf};
 ghost use Rattle.night.specs.Night.{digests, Night};
 use answers::Answer;

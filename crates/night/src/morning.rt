@@ -6,8 +6,8 @@ ghost use Prim.Native.Nat.{ℕ};
 ghost use lib.ListN.{length, take};
 ghost use Rattle.answers.specs.Numbers.{numberOf};
 ghost use Rattle.bays.specs.Table.{roomFor};
-ghost use Rattle.calls.specs.Calls.{Call, Outcome};
-ghost use Rattle.ledger.specs.Ledger.{slotRecord};
+ghost use Rattle.calls.specs.Calls.{Call, Lends, Outcome};
+ghost use Rattle.ledger.specs.Ends.{recordOfMessage};
 ghost use Rattle.night.specs.Night.{digests, fileDigests};
 ghost use Rattle.night.specs.code.Held.{holding, Held, Fitting, Roomy};
 use crate::evening::laid;
@@ -17,6 +17,7 @@ use slices::places::part;
 // The half-read file goes on where its record left it.
 fn take_up(table: &mut [u64], saved: &[u8]) -> Answer
     ensures { λ r. ⌜ Outcome (now (table .entry)) (Call.loading 0 (now (saved .entry))) (numberOf r) (now (table .exit)) [] ⌝ }
+    ensures { λ _. ⌜ Lends (now (table .entry)) (Call.loading 0 (now (saved .entry))) ⌝ }
 {
     calls::load(table, 0, saved)
 }
@@ -61,7 +62,7 @@ pub(crate) fn morning(
 )
     ensures { λ _.
         ⌜ (roomFor 3 (length (now (anew .entry))) ≡ true → Fitting edition (now (a .entry)) (now (b .entry)) (now (c .entry)) →
-        now (saved .entry) ≡ slotRecord (holding edition (take cut (now (a .entry)))) →
+        now (saved .entry) ≡ recordOfMessage edition (take cut (now (a .entry))) →
         Roomy edition (digests (now (first .entry)) (now (second .entry)) (now (third .entry))) →
         digests (now (first .exit)) (now (second .exit)) (now (third .exit))
         ≡ fileDigests edition (now (a .entry)) (now (b .entry)) (now (c .entry))

@@ -5,7 +5,6 @@ use borrow.Author.Needs.{needs}
 use Rattle.answers.specs.Judged.{first}
 use Rattle.answers.specs.Numbers.{numberOf}
 use Rattle.answers.proofs.Refusals.{refuses}
-use Rattle.slices.specs.Below.{Bytes}
 use Rattle.night.specs.Night.{roomTests, fileTests}
 use Rattle.night.proofs.Refusals.{no-tables, no-files, no-outputs, whole-night}
 use Rattle.night.proofs.night.Statement.{statement}
@@ -63,10 +62,8 @@ returns-4 c =
     let e2 = o .before .before .before .before .before in
     let e1 = e2 .before .before .before in
     let g = start (e1 .before .before) .args in
-    let k = sized e1 .before .before .before .before .before .before .before .before in
-    let aBytes : Bytes (g .a .now) = λ i. k .shared-slice-known .given i .fits in
     whole-night _ _ _ (g .a .now) (g .cut) _ _ _ _ _ _ (sized e1 .before .part .ensures) (sized e1 .record-length .ensures)
-    (rooms e1) (files e2) _ _ _ _ _ (p2 .part2 .ensures) (p3 .part3 .ensures) aBytes
+    (rooms e1) (files e2) _ _ _ _ _ (p2 .part2 .ensures) (p3 .part3 .ensures)
     (sym (o .outputs .ensures) ∙ ap numberOf (e3 .enum-told3 .given .1)) (v .evening .ensures) (p4 .part4 .ensures) (m .morning .ensures)
 
 pub night-spec : {M : Type 1} → statement M

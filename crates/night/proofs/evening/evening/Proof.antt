@@ -1,6 +1,5 @@
 -- `night::evening::evening` meets its contract: the bay of the first file holds what came of it, and that is saved. Assumes nothing.
 use borrow.Author.Needs.{needs}
-use Rattle.slices.specs.Below.{Bytes}
 use Rattle.night.proofs.Story.{saved-half}
 use Rattle.night.proofs.evening.evening.Statement.{statement}
 use Rattle.night.proofs.evening.evening.Tie as tie
@@ -13,12 +12,7 @@ returns c room fit size =
     let a1 = a2 .before .before .before .before in
     let p = a1 .before .before .before .before in
     let l = p .before .before .before .before in
-    let k = l .before .before .before in
-    let g = k .before .before .before .before .args in
-    let aBytes : Bytes (g .a .now) = λ i. k .before .before .shared-slice-known .given i .fits in
-    let bBytes : Bytes (g .b .now) = λ i. k .before .shared-slice-known2 .given i .fits in
-    let cBytes : Bytes (g .c .now) = λ i. k .shared-slice-known3 .given i .fits in
-    saved-half _ _ _ _ aBytes bBytes cBytes fit (l .laid .ensures room (fit .isKnown)) (p .«open» .ensures)
+    saved-half _ _ _ _ _ fit (l .laid .ensures room (fit .isKnown)) (p .«open» .ensures)
     (a1 .add .ensures) (a2 .add2 .ensures) (a3 .add3 .ensures) (v .save .ensures) size
 
 pub evening-spec : {M : Type 1} → statement M

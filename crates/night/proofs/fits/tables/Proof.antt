@@ -1,5 +1,4 @@
 -- `night::fits::tables` meets its contract. Assumes nothing.
-use borrow.Author.Needs.{needs}
 use Rattle.answers.specs.Judged.{first}
 use Rattle.night.specs.Night.{roomTests}
 use Rattle.night.proofs.Refusals.{no-room, has-room}

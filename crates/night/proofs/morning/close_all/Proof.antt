@@ -9,7 +9,7 @@ returns c e x y z held room =
     let k3 = c .before .before .before .before in
     let k2 = k3 .before .before .before .before .before .before .before in
     let k1 = k2 .before .before .before .before .before .before .before in
-    closed-all e x y z held room (k1 .close .ensures) (k2 .close2 .ensures) (k3 .close3 .ensures)
+    closed-all e x y z _ _ _ held room (k1 .close .ensures) (k2 .close2 .ensures) (k3 .close3 .ensures)
 
 pub close-all-spec : {M : Type 1} → statement M
 close-all-spec =
