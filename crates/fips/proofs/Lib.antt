@@ -1,8 +1,8 @@
 pub mod Bits
-pub mod Parts
 pub mod Rotation
 pub mod Padding
 pub mod ByteForm
+pub mod Parts
 pub mod Primes
 pub mod Roots
 pub mod Chain

@@ -5,14 +5,15 @@ use Prim.Native.Nat.{ℕ, zero, suc, _+_, _-_, _*_, _/_, _%_, _^_, _≤_, _<_}
 use mathlib.Core.Bool.{Bool}
 use mathlib.Core.List.{List, [], _∷_, _++_, map, append-assoc}
 use mathlib.Core.Path.{_≡_, refl, sym, ap, ap₂, subst, _∙_}
-use native.Mathlib.Nat.{mul-suc, add-comm, add-zero, mod-lt, mod-eq-of-lt, div-add-mod}
+use native.Mathlib.Nat.{mul-suc, add-comm, add-zero, mod-lt, mod-eq-of-lt, div-add-mod, le-of-lt}
 use native.Mathlib.Omega.{arith}
-use lib.ListN.{length, take, drop, length-append, length-drop, take-append-drop}
+use lib.ListN.{length, take, drop, length-drop, take-append-drop}
 use lib.Pow.{shl-lt, shl-shr, shr-mod, split, low, pow-pos}
 use lib.Seq.{length-take-le, take-add, take-at, drop-at}
 use Rattle.slices.specs.Below.{Bytes}
 use Rattle.fips.specs.Bits.{bits, value, bitsOf, pieces}
-use Rattle.fips.specs.Message.{message}
+use Rattle.fips.specs.Message.{message, bytesIn}
+use Rattle.fips.proofs.ByteForm.{length-message}
 use Rattle.fips.proofs.Bits.{length-bits, value-bits, value-lt, bits-value, take-bits, length-bitsOf}
 
 -- ---- bytes
@@ -95,15 +96,12 @@ module _ (b : ℕ) (few : b < 8) where
 -- ---- a bit string by its parts
 
 module _ (m : List Bool) where
-  -- its whole bytes; how many bits stand behind them, and the closing byte that has these
+  -- how many whole bytes it has, how many bits stand behind them, and the closing byte that has these
   abbrev pub wholeBytes : ℕ
   wholeBytes = length m / 8
 
   abbrev pub bitsBehind : ℕ
   bitsBehind = length m % 8
-
-  unfoldable pub bytesIn : List ℕ
-  bytesIn = map value (pieces 8 wholeBytes m)
 
   unfoldable pub closingIn : ℕ
   closingIn = value (drop (8 * wholeBytes) m) * 2 ^ (8 - bitsBehind)
@@ -117,11 +115,11 @@ module _ (m : List Bool) where
   behind : length (drop (8 * wholeBytes) m) ≡ bitsBehind
   behind = length-drop (8 * wholeBytes) m ∙ omega (arith, div-add-mod (length m) 8)
 
-  pub bytesIn-bytes : Bytes bytesIn
+  pub bytesIn-bytes : Bytes (bytesIn m)
   unfolding bytesIn
   bytesIn-bytes = bytes-pieces wholeBytes m within
 
-  pub length-bytesIn : length bytesIn ≡ wholeBytes
+  pub length-bytesIn : length (bytesIn m) ≡ wholeBytes
   unfolding bytesIn
   length-bytesIn = length-pieces wholeBytes m
 
@@ -133,7 +131,7 @@ module _ (m : List Bool) where
   unfolding closingIn
   closingIn-zeros = up-zeros bitsBehind few-behind (value (drop (8 * wholeBytes) m))
 
-  pub parts-message : message bytesIn closingIn bitsBehind ≡ m
+  pub parts-message : message (bytesIn m) closingIn bitsBehind ≡ m
   unfolding message bytesIn closingIn
   parts-message =
       ap₂ (λ (a b : List Bool). a ++ b) (bits-pieces wholeBytes m within)
@@ -143,17 +141,11 @@ module _ (m : List Bool) where
 -- ---- a message has the parts that made it
 
 module _ (bytes : List ℕ) (x b : ℕ) (few : b < 8) where
-  length-message : length (message bytes x b) ≡ 8 * length bytes + b
-  unfolding message
-  length-message =
-      length-append (bitsOf bytes) (take b (bits 8 x))
-      ∙ ap₂ (λ (i j : ℕ). i + j) (length-bitsOf bytes) (length-take-le b (bits 8 x) (rw (length-bits 8 x) (omega arith)))
-
   pub message-wholes : wholeBytes (message bytes x b) ≡ length bytes
-  message-wholes = rw length-message (omega arith)
+  message-wholes = rw (length-message bytes x b (le-of-lt few)) (omega arith)
 
   pub message-bits : bitsBehind (message bytes x b) ≡ b
-  message-bits = rw length-message (omega arith)
+  message-bits = rw (length-message bytes x b (le-of-lt few)) (omega arith)
 
   pub message-bytes : Bytes bytes → bytesIn (message bytes x b) ≡ bytes
   unfolding bytesIn message

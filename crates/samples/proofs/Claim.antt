@@ -11,7 +11,7 @@ use Rattle.fips.specs.Block.{next, schedule, round, rounds, block, blocks}
 use Rattle.fips.specs.Padding.{zeros, pad, parse}
 use Rattle.fips.specs.Constants.{roundWords, hashFrom, start224, start256, start384, start512, ascii, generated}
 use Rattle.fips.specs.Editions.{editions, edition, digest}
-use Rattle.fips.specs.Message.{message}
+use Rattle.fips.specs.Message.{message, bytesIn}
 use Rattle.fips.specs.code.ByteForm.{parseBytes}
 use Rattle.slices.specs.AtFront.{atFront}
 use Rattle.slices.specs.Tests.{same}
@@ -36,7 +36,7 @@ agree-hold (s ∷ ss) e =
     (same-eq (s .given) (s .said) (p .0), agree-hold ss (p .1))
 
 test : agree table ≡ true
-unfolding table be number toWords fromWords bits value bitsOf pieces primes primesBelow isPrime undivided rootWord root next schedule round rounds block blocks zeros pad parse roundWords hashFrom start224 start256 start384 start512 ascii generated editions edition digest message zipWith parseBytes atFront fit absorbed opened added recordIn header rowBytes listBytes entryBytes entryRun nameRun closingFits sha256 leaf parent up higher climb top same
+unfolding table be number toWords fromWords bits value bitsOf pieces primes primesBelow isPrime undivided rootWord root next schedule round rounds block blocks zeros pad parse roundWords hashFrom start224 start256 start384 start512 ascii generated editions edition digest message bytesIn zipWith parseBytes atFront fit absorbed opened added recordIn header rowBytes listBytes entryBytes entryRun nameRun closingFits sha256 leaf parent up higher climb top same
 test = refl
 
 pub samples : Hold table

@@ -1,17 +1,17 @@
 -- The samples marked P, SPEC, "Samples": one table, and the claim that every row holds.
 -- A row is what a definition gives, and what it is to be.
-use Prim.Native.Nat.{ℕ, _/_}
+use Prim.Native.Nat.{ℕ}
 use mathlib.Core.Bool.{Bool, true}
 use mathlib.Core.List.{List, [], _∷_, _++_, map}
 use mathlib.Core.Path.{_≡_}
 use lib.ListN.{length, replicate}
 use Rattle.bigendian.specs.BigEndian.{be}
-use Rattle.fips.specs.Bits.{digit, value, pieces}
+use Rattle.fips.specs.Bits.{digit}
 use Rattle.fips.specs.Words.{Width, w32, w64, ch, big0, big1, small0, small1}
 use Rattle.fips.specs.Roots.{rootWord}
 use Rattle.fips.specs.Padding.{pad, parse}
 use Rattle.fips.specs.Constants.{ascii}
-use Rattle.fips.specs.Message.{message}
+use Rattle.fips.specs.Message.{message, bytesIn}
 use Rattle.fips.specs.Editions.{digest}
 use Rattle.sha2.specs.Closing.{closingFits}
 use Rattle.halfread.specs.Steps.{opened, added}
@@ -32,10 +32,6 @@ abbrev pub Hold : List Sample → Type 0
 Hold [] = Unit {0}
 Hold (s ∷ ss) = (s .given ≡ s .said) × Hold ss
 
--- a bit string in bytes
-inBytes : List Bool → List ℕ
-inBytes m = map value (pieces 8 (length m / 8) m)
-
 -- how many blocks a message of l bits fills
 blocksOf : Width → ℕ → List ℕ
 blocksOf p l = length (parse p (pad p (replicate l true))) ∷ []
@@ -48,12 +44,12 @@ abcDigest : ℕ
 abcDigest = 0xba7816bf8f01cfea414140de5dae2223b00361a396177a9cb410ff61f20015ad
 
 unfoldable pub table : List Sample
-unfolding inBytes blocksOf abc abcDigest
+unfolding blocksOf abc abcDigest
 table =
     -- three short messages, padded
-    (inBytes (pad w32 []) is 0x80 ∷ replicate 63 0)
-    ∷ (inBytes (pad w32 abc) is (0x61 ∷ 0x62 ∷ 0x63 ∷ 0x80 ∷ replicate 52 0) ++ be 8 0x18)
-    ∷ (inBytes (pad w32 (message [] 0x68 5)) is (0x6c ∷ replicate 62 0) ++ (0x05 ∷ []))
+    (bytesIn (pad w32 []) is 0x80 ∷ replicate 63 0)
+    ∷ (bytesIn (pad w32 abc) is (0x61 ∷ 0x62 ∷ 0x63 ∷ 0x80 ∷ replicate 52 0) ++ be 8 0x18)
+    ∷ (bytesIn (pad w32 (message [] 0x68 5)) is (0x6c ∷ replicate 62 0) ++ (0x05 ∷ []))
     -- where the length no longer fits behind the message
     ∷ (blocksOf w32 447 is 1 ∷ [])
     ∷ (blocksOf w32 448 is 2 ∷ [])

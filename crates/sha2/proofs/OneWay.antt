@@ -14,7 +14,8 @@ use Rattle.contracts.specs.Says.{Made, exit}
 use Rattle.answers.specs.Judged.{first}
 use Rattle.answers.specs.Numbers.{numberOf}
 use Rattle.fips.specs.Editions.{known, digestBytes, digest}
-use Rattle.fips.proofs.Parts.{bitsBehind, bytesIn, closingIn, few-behind, bytesIn-bytes, length-bytesIn, closingIn-byte, closingIn-zeros}
+use Rattle.fips.specs.Message.{bytesIn}
+use Rattle.fips.proofs.Parts.{bitsBehind, closingIn, few-behind, bytesIn-bytes, length-bytesIn, closingIn-byte, closingIn-zeros}
 use Rattle.fips.proofs.Parts.{parts-message, message-wholes, message-bits, message-bytes, message-closing}
 use Rattle.slices.specs.AtFront.{atFront}
 use Rattle.slices.specs.Below.{Bytes}
