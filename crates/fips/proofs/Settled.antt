@@ -1,5 +1,4 @@
 -- Settled: two results that a public function's own contract allows coincide. `Learnt` is that contract, made from src.
-use denote.Ref.{now}
 use Rattle.contracts.specs.Says.{Settles}
 use Rattle.contracts.proofs.Values.{value-settled}
 use Rattle.fips.proofs.Sizes.{sizes-same}
