@@ -7,6 +7,7 @@ use lib.ListN.{drop}
 use denote.Ref.{now}
 use Rattle.contracts.specs.Says.{Settles}
 use Rattle.contracts.proofs.Values.{value-settled}
+use Rattle.slices.proofs.LiesAt.{lies-settled}
 use Rattle.hexlines.specs.Digits.{bytesOf}
 use Rattle.hexlines.proofs.find as find
 use Rattle.hexlines.proofs.find.Reads as find-reads
@@ -35,11 +36,12 @@ unhexed-settled text d p q =
 pub find-settled : Settles find.ended find-reads.Learnt (λ κs r x. r)
 find-settled κs a r s x y p q = value-settled (p .0) (q .0)
 
-pub first-field-settled : Settles first-field.ended first-field-reads.Learnt (λ κs r x. now r)
-first-field-settled κs a r s x y = value-settled
+-- the bytes, and where they lie
+pub first-field-settled : Settles {A = List ℕ × (ℕ × ℕ)} first-field.ended first-field-reads.Learnt (λ κs r x. (now r, r .ptr))
+first-field-settled κs a r s x y = lies-settled
 
-pub other-fields-settled : Settles other-fields.ended other-fields-reads.Learnt (λ κs r x. now r)
-other-fields-settled κs a r s x y = value-settled
+pub other-fields-settled : Settles {A = List ℕ × (ℕ × ℕ)} other-fields.ended other-fields-reads.Learnt (λ κs r x. (now r, r .ptr))
+other-fields-settled κs a r s x y = lies-settled
 
 pub digit-settled : Settles digit.ended digit-reads.Learnt (λ κs r x. r)
 digit-settled κs a r s x y = value-settled

@@ -2,11 +2,13 @@
 // Every function is total; what is no number or no hexadecimal is said to be none.
 ghost use mathlib.Core.Path.{_≡_};
 ghost use mathlib.Core.List.{_++_};
-ghost use Prim.Native.Nat.{_/_, _≤_, min};
+ghost use Prim.Native.Nat.{suc, _/_, _≤_, min};
 ghost use lib.ListN.{length, take, drop};
+ghost use Rattle.slices.specs.Parts.{LiesAt};
 ghost use Rattle.hexlines.specs.Fields.{place, firstField, otherFields};
 ghost use Rattle.hexlines.specs.Digits.{digitOf, byteOf, isHex, bytesOf, sizeWithin, decimalOf};
 use slices::places::least;
+use slices::places::part;
 
 // Where a byte first stands; the length where it stands nowhere.
 pub fn find(s: &[u8], b: u8) -> usize
@@ -25,21 +27,21 @@ pub fn find(s: &[u8], b: u8) -> usize
 // What stands before the first space.
 pub fn first_field(s: &[u8]) -> &[u8]
     ensures { λ r. ⌜ now r ≡ firstField (now (s .entry)) ⌝ }
+    ensures { λ r. ⌜ LiesAt r (s .entry) 0 ⌝ }
 {
-    let end = find(s, b' ');
-    &s[..end]
+    part(s, 0, find(s, b' '))
 }
 
 // What stands after the first space.
 pub fn other_fields(s: &[u8]) -> &[u8]
     ensures { λ r. ⌜ now r ≡ otherFields (now (s .entry)) ⌝ }
+    ensures { λ r. ⌜ LiesAt r (s .entry) (suc (place 32 (now (s .entry)))) ⌝ }
 {
     let end = find(s, b' ');
     if end < s.len() {
-        let next = end + 1;
-        return &s[next..];
+        return part(s, end + 1, s.len());
     }
-    &s[end..]
+    &s[..0]
 }
 
 // The value of a hexadecimal digit, 16 for any other byte.
