@@ -18,7 +18,8 @@ use Rattle.report.specs.declared.Brought.{Brought}
 use Rattle.report.specs.declared.Ending.{Ending}
 use Rattle.report.specs.declared.Turn.{Turn}
 use Rattle.report.specs.Report.{verdict}
-use Rattle.report.specs.code.Files.{begun, fits, afterPiece, turnOf, afterTurn, endsAs, ending, afterAll, said, AllBytes, upToFailure, Reading}
+use Rattle.report.specs.code.Files.{begun, fits, afterPiece, turnOf, afterTurn, endsAs, ending, afterAll, said, AllBytes}
+use Rattle.report.specs.code.Files.{upToFailure, Reading}
 use Rattle.report.specs.code.Program.{File, unread, pieces, Led, Verdicted, verdictOn}
 use Rattle.report.proofs.Verdicts.{file-verdict}
 
@@ -87,12 +88,13 @@ module _ (t : List ℕ) where
           leaves = sym (last .1 ∙ rw (← r .leaves) (either-after left p));
         }
 
-    on-piece : (b : Bool) → fits left p ≡ b → (Turn.GoesOn ≡ cond b Turn.GoesOn (Turn.Ends Ending.TooLong)) → Reading t Ending.Whole (afterPiece left p)
+    on-piece : (b : Bool) → fits left p ≡ b → Turn.GoesOn ≡ cond b Turn.GoesOn (Turn.Ends Ending.TooLong) →
+        Reading t Ending.Whole (afterPiece left p)
     unfolding ending afterAll
     on-piece true e h = more Ending.Whole (rw e)
     on-piece false e h = absurd (subst GoesOn h tt)
 
-    end-piece : (e : Ending) (b : Bool) → fits left p ≡ b → (Turn.Ends e ≡ cond b Turn.GoesOn (Turn.Ends Ending.TooLong)) →
+    end-piece : (e : Ending) (b : Bool) → fits left p ≡ b → Turn.Ends e ≡ cond b Turn.GoesOn (Turn.Ends Ending.TooLong) →
         Reading t e (afterPiece left p)
     unfolding ending afterAll
     end-piece e true k h = absurd (subst GoesOn (sym h) tt)
