@@ -1,0 +1,2 @@
+-- What the checker says of a file, over its own contract.
+pub mod Said
