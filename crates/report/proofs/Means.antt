@@ -1,5 +1,5 @@
--- What each verdict means: OK exactly where the bytes that came are not too long and have the digest that is listed, `ok-means` and
--- `ok-where`; MISSING with a reason exactly where no file came for that reason, `missing-means`.
+-- What each verdict means: MISSING with a reason only where no file came for that reason, `missing-means`; OK exactly where the bytes that
+-- came are not too long and have the digest that is listed, `ok-means` and `ok-where`.
 use Prim.Native.Nat.{ℕ}
 use mathlib.Core.Bool.{Bool, true, false, cond, not, _&&_, false≢true}
 use mathlib.Core.List.{List}
@@ -35,13 +35,18 @@ reasonOf other Verdict.Bad = other
 reasonOf other (Verdict.Missing why) = why
 
 module _ (e : ℕ) (listed : List ℕ) where
-  pub ok-where : (m : List ℕ) → tooLong e 0 (length m) ≡ false → digest e (message m 0 0) ≡ listed → verdict e listed (bytes m) ≡ Verdict.Ok
-  unfolding verdict
-  ok-where m short is = rw (short, eq-same (digest e (message m 0 0)) listed is)
-
   -- what is asked of bytes
   abbrev asked : List ℕ → Bool
   asked m = not (tooLong e 0 (length m)) && same (digest e (message m 0 0)) listed
+
+  pub missing-means : (c : Came) (why : Why) → verdict e listed c ≡ Verdict.Missing why → c ≡ noFile why
+  unfolding verdict
+  missing-means (noFile w) why h = ap noFile (ap (reasonOf w) h)
+  missing-means (bytes m) why h = absurd (found (asked m) why h)
+
+  pub ok-where : (m : List ℕ) → tooLong e 0 (length m) ≡ false → digest e (message m 0 0) ≡ listed → verdict e listed (bytes m) ≡ Verdict.Ok
+  unfolding verdict
+  ok-where m short is = rw (short, eq-same (digest e (message m 0 0)) listed is)
 
   pub ok-means : (c : Came) → verdict e listed c ≡ Verdict.Ok →
       (m : List ℕ) × ((c ≡ bytes m) × (tooLong e 0 (length m) ≡ false) × (digest e (message m 0 0) ≡ listed))
@@ -50,8 +55,3 @@ module _ (e : ℕ) (listed : List ℕ) where
   ok-means (bytes m) h =
       let t = both-true (not (tooLong e 0 (length m))) (same (digest e (message m 0 0)) listed) (ok-true (asked m) h) in
       (m, (refl, not-true (tooLong e 0 (length m)) (t .0), same-eq (digest e (message m 0 0)) listed (t .1)))
-
-  pub missing-means : (c : Came) (why : Why) → verdict e listed c ≡ Verdict.Missing why → c ≡ noFile why
-  unfolding verdict
-  missing-means (noFile w) why h = ap noFile (ap (reasonOf w) h)
-  missing-means (bytes m) why h = absurd (found (asked m) why h)
