@@ -1,6 +1,6 @@
 -- `night::night` meets its contract: what does not fit is refused by its test, and what fits goes through the evening and the morning.
 -- Assumes nothing.
-use mathlib.Core.Path.{_≡_, sym, ap, _∙_}
+use mathlib.Core.Path.{_≡_, refl, sym, ap, _∙_}
 use borrow.Author.Needs.{needs}
 use Rattle.answers.specs.Judged.{first}
 use Rattle.answers.specs.Numbers.{numberOf}
@@ -70,9 +70,9 @@ pub night-spec : {M : Type 1} → statement M
 night-spec =
     tie.close
     (tie.spec
-    (λ c κs. search needs) (λ c κs. search needs) (λ c κs. search needs) (λ c. search needs) (λ c. search needs) (λ c. search needs)
-    returns (λ c κs. search needs) (λ c. search needs) (λ c. search needs) (λ c. search needs) returns-2 (λ c κs. search needs)
-    (λ c. search needs) (λ c. search needs) (λ c. search needs) (λ c. search needs) (λ c. search needs) (λ c. search needs)
-    (λ c. search needs) returns-3 (λ c κs. search needs) (λ c κs. search needs) (λ c κs. search needs) (λ c κs. search needs)
+    (λ c κs. search needs) (λ c κs. search needs) (λ c κs. search needs) (λ c. search needs) (λ c. refl) (λ c. refl)
+    returns (λ c κs. search needs) (λ c. search needs) (λ c. refl) (λ c. refl) returns-2 (λ c κs. search needs)
+    (λ c. search needs) (λ c. refl) (λ c. refl) (λ c. refl) (λ c. refl) (λ c. refl)
+    (λ c. refl) returns-3 (λ c κs. search needs) (λ c κs. search needs) (λ c κs. search needs) (λ c κs. search needs)
     (λ c κs. search needs) (λ c. search needs) (λ c. search needs) (λ c. search needs) (λ c. search needs) (λ c. search needs)
     (λ c. search needs) returns-4)
