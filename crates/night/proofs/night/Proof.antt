@@ -47,7 +47,7 @@ returns-3 c =
     let e2 = o .before .before .before .before .before in
     let e1 = e2 .before .before .before in
     let g = start (e1 .before .before) .args in
-    no-outputs _ _ _ (g .a .now) (g .cut) _ _ _ _ _ _ (sized e1 .before .part .ensures) (sized e1 .record-length .ensures)
+    no-outputs _ _ _ (g .a .now) (g .cut) _ _ _ _ _ _ (sized e1 .before .part .ensures .0) (sized e1 .record-length .ensures)
     (rooms e1) (files e2) (o .outputs .ensures) (refuses (o .outputs .result) (c .match3 .keys2))
 
 returns-4 : tie.Need-returns-4
@@ -62,9 +62,9 @@ returns-4 c =
     let e2 = o .before .before .before .before .before in
     let e1 = e2 .before .before .before in
     let g = start (e1 .before .before) .args in
-    whole-night _ _ _ (g .a .now) (g .cut) _ _ _ _ _ _ (sized e1 .before .part .ensures) (sized e1 .record-length .ensures)
-    (rooms e1) (files e2) _ _ _ _ _ (p2 .part2 .ensures) (p3 .part3 .ensures)
-    (sym (o .outputs .ensures) ∙ ap numberOf (e3 .enum-told3 .given .1)) (v .evening .ensures) (p4 .part4 .ensures) (m .morning .ensures)
+    whole-night _ _ _ (g .a .now) (g .cut) _ _ _ _ _ _ (sized e1 .before .part .ensures .0) (sized e1 .record-length .ensures)
+    (rooms e1) (files e2) _ _ _ _ _ (p2 .part2 .ensures .0) (p3 .part3 .ensures .0)
+    (sym (o .outputs .ensures) ∙ ap numberOf (e3 .enum-told3 .given .1)) (v .evening .ensures) (p4 .part4 .ensures .0) (m .morning .ensures)
 
 pub night-spec : {M : Type 1} → statement M
 night-spec =

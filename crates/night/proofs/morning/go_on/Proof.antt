@@ -34,8 +34,8 @@ returns c e fit held =
     let a2 = added2 a3 in
     let a1 = added1 a2 in
     let g = a1 .before .before .before .before .before .before .before .args in
-    gone-on e (g .cut) (g .a .now) (g .b .now) (g .c .now) _ _ _ _ _ (a2 .before .part2 .ensures) (a1 .before .part .ensures)
-    (a4 .before .part4 .ensures) (a3 .before .part3 .ensures) (a5 .before .part5 .ensures) fit held
+    gone-on e (g .cut) (g .a .now) (g .b .now) (g .c .now) _ _ _ _ _ (a2 .before .part2 .ensures .0) (a1 .before .part .ensures .0)
+    (a4 .before .part4 .ensures .0) (a3 .before .part3 .ensures .0) (a5 .before .part5 .ensures .0) fit held
     (a1 .add .ensures) (a2 .add2 .ensures) (a3 .add3 .ensures) (a4 .add4 .ensures) (a5 .add5 .ensures)
 
 pub go-on-spec : {M : Type 1} → statement M
