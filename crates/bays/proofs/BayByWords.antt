@@ -24,7 +24,7 @@ use Rattle.bays.specs.Places.{bayWords, placeOf}
 use Rattle.bays.specs.Places.{editionWord, countWord, chainFrom, chainWords, tailFrom, tailWords}
 use Rattle.bays.specs.Table.{bayAt, putBay}
 use Rattle.bays.specs.Bay.{halfOf, bayOf, isEmpty, soundBay}
-use Rattle.bays.specs.ByWords.{wordAt, byteOf, ByWords, Vacant, TakenRules}
+use Rattle.bays.specs.ByWords.{wordAt, byteOfWord, ByWords, Vacant, TakenRules}
 use Rattle.bays.specs.Gate.{halfAt}
 use Rattle.bays.proofs.Frames.{length-bayAt, bayAt-putBay}
 use Rattle.bays.proofs.Packing.{length-bayOf, halfOf-bayOf, bayOf-halfOf, eight-halfOf, wide-halfOf}
@@ -45,7 +45,7 @@ by-words-alike bay bay′ h e r =
       edition = r .edition ∙ e editionWord (lit< tt);
       count = r .count ∙ e countWord (lit< tt);
       chain = λ j p. r .chain j p ∙ e (chainFrom + j) (omega arith);
-      tail = λ k p. r .tail k p ∙ ap (λ (x : ℕ). byteOf x (k % 8)) (e (tailFrom + k / 8) (omega arith));
+      tail = λ k p. r .tail k p ∙ ap (λ (x : ℕ). byteOfWord x (k % 8)) (e (tailFrom + k / 8) (omega arith));
     }
 
 pub half-by-words : (b : List ℕ) → length b ≡ bayWords → ByWords (λ j. getD b j 0) (halfOf b)
@@ -61,7 +61,7 @@ half-by-words b fits =
           getD-fromWords 8 (drop tailFrom b) k (omega (arith, length-drop tailFrom b))
           ∙ getD-be 8 (getD (drop tailFrom b) (k / 8) 0) i (mod-lt k (lit< tt))
           ∙ ap (λ (m : ℕ). getD (drop tailFrom b) (k / 8) 0 / 256 ^ m % 256) from
-          ∙ ap (λ (x : ℕ). byteOf x i) (getD-drop tailFrom b (k / 8) 0);
+          ∙ ap (λ (x : ℕ). byteOfWord x i) (getD-drop tailFrom b (k / 8) 0);
     }
 
 pub bay-by-words : (h : HalfRead) → Shaped h → ByWords (λ j. getD (bayOf h) j 0) h

@@ -36,14 +36,14 @@ abbrev pub wordAt : List ℕ → ℕ → ℕ → ℕ
 wordAt t i j = getD t (placeOf i + j) 0
 
 -- the byte at i of a word, 0 its most significant and 7 its least
-abbrev pub byteOf : ℕ → ℕ → ℕ
-byteOf x i = x / 256 ^ (7 - i) % 256
+abbrev pub byteOfWord : ℕ → ℕ → ℕ
+byteOfWord x i = x / 256 ^ (7 - i) % 256
 
 -- of a bay whose word j is `bay j`
 module _ (bay : ℕ → ℕ) where
   -- byte k of its tail
   abbrev pub tailByte : ℕ → ℕ
-  tailByte k = byteOf (bay (tailFrom + k / 8)) (k % 8)
+  tailByte k = byteOfWord (bay (tailFrom + k / 8)) (k % 8)
 
   -- what it holds
   pub record ByWords (h : HalfRead) : Type 0 where

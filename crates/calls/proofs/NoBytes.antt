@@ -52,4 +52,5 @@ module _ (t : List ℕ) (i : ℕ) (words : Below (2 ^ 64) t) where
 pub add-nothing : (κs : Lfts 2) (a : Args add.signature κs) (r : Res add.signature κs) (x : AtExit add.ended κs) →
     add-reads.Learnt κs a r x → now (a .1 .1 .0) ≡ [] → now (x .0) ≡ now (a .0)
 add-nothing κs a r x (j, l) none =
-    kept (now (a .0)) (a .1 .0) (l .0) (subst (λ (p : List ℕ). Outcome (now (a .0)) (adding (a .1 .0) p) (numberOf r) (now (x .0)) []) none j)
+    kept (now (a .0)) (a .1 .0) (l .0)
+    (subst (λ (p : List ℕ). Outcome (now (a .0)) (adding (a .1 .0) p) (numberOf r) (now (x .0)) []) none j)

@@ -1,5 +1,6 @@
 -- The C names keep the ledger's promise: `c-ledger` after a layout, `c-ledger-sound` from any sound table, `c-opened-closed` and
--- `c-loaded-closed` from a message's beginning to its digest, each over the C functions' own contracts; and there are such calls, `c-traced`.
+-- `c-loaded-closed` from a message's beginning to its digest, each over the C functions' own contracts; and there are such calls,
+-- `c-traced`.
 use Prim.Native.Nat.{ℕ, _^_}
 use mathlib.Core.List.{List, []}
 use mathlib.Core.Path.{refl}

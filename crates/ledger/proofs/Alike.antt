@@ -23,7 +23,8 @@ use Rattle.calls.specs.Calls.{Call, layOut, run}
 use Rattle.ledger.specs.Ledger.{Entry, Fine, FineSlot, Slot, nothing, entry, openedEntry, loadedEntry, with, entryRecord}
 use Rattle.ledger.specs.Ledger.{slotRecord, Ready, SameRecords}
 use Rattle.ledger.specs.Promise.{AllPassed, saidOf, slotsAfter}
-use Rattle.ledger.proofs.Entries.{stateOf, record-entry, state-facts, state-shaped, opened-fine, with-fine, loaded-state, loaded-fine}
+use Rattle.ledger.proofs.Entries.{stateOf, record-entry, state-facts, state-shaped, opened-fine, with-fine, loaded-state}
+use Rattle.ledger.proofs.Entries.{loaded-fine}
 use Rattle.ledger.proofs.Follows.{Follows, slotBay, put-follows, laid-follows}
 use Rattle.ledger.specs.Ends.{recordOfMessage}
 use Rattle.ledger.proofs.Ledger.{follows-all, follows-after, laid}
@@ -199,8 +200,8 @@ pub counts-as : (L : ℕ) (l : List Slot) (i e : ℕ) (m : List ℕ) → Ready L
 counts-as L l i e m r h k all short calls g = loaded-as e m k all short r i h calls g
 
 -- a table that follows the one follows the other
-pub follows-loaded : {L : ℕ} {t u : List ℕ} {l : List Slot} → Follows L t l → (i : ℕ) → i < length l → (e : ℕ) (m : List ℕ) → known e ≡ true →
-    Bytes m → tooLong e 0 (length m) ≡ false → Follows L u (set l i (entry (loadedEntry (recordOfMessage e m)))) →
+pub follows-loaded : {L : ℕ} {t u : List ℕ} {l : List Slot} → Follows L t l → (i : ℕ) → i < length l → (e : ℕ) (m : List ℕ) →
+    known e ≡ true → Bytes m → tooLong e 0 (length m) ≡ false → Follows L u (set l i (entry (loadedEntry (recordOfMessage e m)))) →
     Follows L u (set l i (entry (with (openedEntry e) m)))
 follows-loaded f i h e m k all short g = loaded-other e m k all short (follows-ready f) i h g
 

@@ -30,8 +30,8 @@ use Rattle.ledger.specs.Ledger.{isEntry, slotEdition, slotLength, slotRe
 use Rattle.ledger.specs.Ledger.{saying}
 use Rattle.ledger.specs.Records.{loads}
 use Rattle.calls.specs.Calls.{Passed}
-use Rattle.ledger.proofs.Entries.{stateOf, state-shaped, record-entry, added-entry, digest-entry, with-fine, opened-state, opened-fine}
-use Rattle.ledger.proofs.Entries.{loaded-state, loaded-fine}
+use Rattle.ledger.proofs.Entries.{stateOf, state-shaped, record-entry, added-entry, digest-entry, with-fine, opened-state}
+use Rattle.ledger.proofs.Entries.{opened-fine, loaded-state, loaded-fine}
 use Rattle.ledger.proofs.OwnRecord.{loads-agree}
 use Rattle.ledger.proofs.Follows.{Follows, at, shown, gated, passed-gate, put-follows, laid-follows, half-slot, state-count}
 use Rattle.ledger.proofs.Follows.{not-not, slotBay, state-edition}

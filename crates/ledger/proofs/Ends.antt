@@ -1,5 +1,6 @@
 -- A message from its beginning to its digest, among any other calls: `opened-closed`, `loaded-closed`, and of the functions in src
--- `code-opened-closed`, `code-loaded-closed`. In the ledger a bay keeps its entry, with what it is given, until a call that is done ends it.
+-- `code-opened-closed`, `code-loaded-closed`. In the ledger a bay keeps its entry, with what it is given, until a call that is done ends
+-- it.
 use Prim.Native.Nat.{ℕ, zero, suc, _<_}
 use mathlib.Core.Bool.{Bool, true, false, cond, false≢true}
 use mathlib.Core.List.{List, [], _∷_, _++_, append-assoc, append-nil}
@@ -12,10 +13,8 @@ use borrow.Author.Tests.{eq-eqb, eqb-true, leb-false}
 use Rattle.answers.specs.Judged.{first, after}
 use Rattle.answers.proofs.Tests.{passed}
 use Rattle.slices.specs.AtFront.{atFront}
-use Rattle.slices.specs.Below.{Bytes}
-use Rattle.fips.specs.Editions.{known, digest}
+use Rattle.fips.specs.Editions.{digest}
 use Rattle.fips.specs.Message.{message}
-use Rattle.sha2.specs.Limit.{tooLong}
 use Rattle.calls.specs.Calls.{Call, layOut, opening, adding, closing, saving, loading, asking, dropping, Seen}
 use Rattle.ledger.specs.Ledger.{Entry, Slot, nothing, entry, openedEntry, loadedEntry, with, isEntry, slotWith, slotDigest}
 use Rattle.ledger.specs.Ledger.{ledgerTests, kept, written, keep}
@@ -113,7 +112,8 @@ opening-puts L l i e z = filled L l (opening i e) i (entry (openedEntry e)) z (p
 loading-puts : (L : ℕ) (l : List Slot) (i : ℕ) (bytes : List ℕ) → keep L l (loading i bytes) .seen .answer ≡ 0 →
     (i < length l) × (keep L l (loading i bytes) .slots ≡ set l i (entry (loadedEntry bytes)))
 unfolding keep ledgerTests kept
-loading-puts L l i bytes z = filled L l (loading i bytes) i (entry (loadedEntry bytes)) z (passed (ledgerTests L l (loading i bytes)) tt z 0) refl
+loading-puts L l i bytes z =
+    filled L l (loading i bytes) i (entry (loadedEntry bytes)) z (passed (ledgerTests L l (loading i bytes)) tt z 0) refl
 
 -- any calls
 all-still : (L : ℕ) (l : List Slot) (i : ℕ) → i < length l → (en : Entry) → getD l i nothing ≡ entry en → (cs : List Call) →

@@ -1,13 +1,12 @@
 -- The ledger's own record is the one of records: `record-agrees`, the same bytes, and `loads-agree`, the same bytes load.
-use Prim.Native.Nat.{ℕ, _+_, _*_, _%_, _^_, _≤_, _<_}
+use Prim.Native.Nat.{ℕ, _+_, _^_}
 use mathlib.Core.Bool.{Bool, true, false, _||_}
-use mathlib.Core.List.{List, [], _∷_, _++_, append-assoc}
-use mathlib.Core.Path.{_≡_, refl, sym, ap, subst, _∙_}
+use mathlib.Core.List.{List, [], _++_, append-assoc}
+use mathlib.Core.Path.{_≡_, sym, ap, subst, _∙_}
 use native.Mathlib.Omega.{arith}
 use lib.ListN.{length, drop, length-drop}
 use borrow.Author.Tests.{not-true, eq-eqb, eqb-true, lt-leb}
 use Rattle.slices.specs.Below.{Below, Bytes}
-use Rattle.slices.specs.Tests.{holds}
 use Rattle.slices.proofs.Below.{below-drop}
 use Rattle.slices.proofs.Tests.{tests-agree, holds-at, holds-on, holds-last, same-eq, eq-same}
 use Rattle.bigendian.specs.BigEndian.{be}
@@ -15,10 +14,10 @@ use Rattle.bigendian.specs.Rows.{rowBytes}
 use Rattle.bigendian.specs.Words.{fromWords}
 use Rattle.bigendian.proofs.BigEndian.{pow-256}
 use Rattle.bigendian.proofs.Words.{toWords-below}
-use Rattle.fips.specs.Words.{word, blockBytes}
-use Rattle.fips.specs.Editions.{width, start}
+use Rattle.fips.specs.Words.{word}
+use Rattle.fips.specs.Editions.{width}
 use Rattle.halfread.specs.declared.HalfRead.{HalfRead}
-use Rattle.halfread.specs.State.{blockOf, tailLength, pending, padded, rules, sound}
+use Rattle.halfread.specs.State.{tailLength, pending, padded, rules, sound}
 use Rattle.halfread.proofs.Rules.{tail-within}
 use Rattle.halfread.proofs.Soundness.{facts-sound}
 use Rattle.halfread.proofs.Tails.{take-padded}

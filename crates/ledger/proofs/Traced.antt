@@ -110,8 +110,8 @@ pub record Some (D : Doing) (t : List ℕ) (c : Call) : Type 0 where
 pub some : (D : Doing) {t u : List ℕ} {c : Call} {s : Seen} → D t c s u → Some D t c
 some D {u = u} {s = s} d = record { seen = s; table = u; did = d }
 
-abbrev pub call : {T : Ended} {L : Says T} (κs : Lfts (T .signature .lifetimes)) (args : Args (T .signature) κs) (result : Res (T .signature) κs)
-    (last : Lasts T κs args) → L κs args result (atExit T κs args last) → Made T L
+abbrev pub call : {T : Ended} {L : Says T} (κs : Lfts (T .signature .lifetimes)) (args : Args (T .signature) κs)
+    (result : Res (T .signature) κs) (last : Lasts T κs args) → L κs args result (atExit T κs args last) → Made T L
 call κs args result last learnt = record { κs = κs; args = args; result = result; last = last; learnt = learnt }
 
 -- ---- the functions in src

@@ -1,13 +1,12 @@
 -- Calls that were made show what the plain ledger gives: `from-sound` and `from-layout`, for whatever says what a call did, as long as that
 -- is a step of `run` and what was lent is words and bytes (`Faithful`). The contracts of the functions are: `code-faithful` and, at the
 -- functions of `calls`, `code-ledger`.
-use Prim.Native.Nat.{ℕ, zero, suc, _^_, _<_}
+use Prim.Native.Nat.{ℕ, zero, suc}
 use mathlib.Core.List.{List, [], _∷_}
 use mathlib.Core.Path.{_≡_, refl, sym, ap, ap₂, subst, _∙_}
 use lib.ListN.{length, replicate}
 use Rattle.answers.specs.Judged.{first, after, lent}
-use Rattle.slices.specs.Below.{Below}
-use Rattle.bays.specs.Table.{baysOf, bayAt}
+use Rattle.bays.specs.Table.{bayAt}
 use Rattle.bays.proofs.Frames.{below-bayAt}
 use Rattle.calls.specs.Calls.{Call, layOut, asking, outputOf, Lends, tests, leaves, Told, nothingTold, tells, Outcome, Asks, Seen, Ran, run}
 use Rattle.ledger.specs.Ledger.{Slot, nothing, keep}
@@ -72,7 +71,8 @@ module _ (D : Doing) (faithful : Faithful D) where
       let h = faithful _ _ _ _ d in
       ap (λ (x : Ran). x .seen) (sym (h .ran)) ∙ same-seen f c (h .lends .1)
 
-  pub did-follows : {L : ℕ} {t u : List ℕ} {l : List Slot} {c : Call} {s : Seen} → Follows L t l → D t c s u → Follows L u (keep L l c .slots)
+  pub did-follows : {L : ℕ} {t u : List ℕ} {l : List Slot} {c : Call} {s : Seen} → Follows L t l → D t c s u →
+      Follows L u (keep L l c .slots)
   did-follows {L} {l = l} {c = c} f d =
       let h = faithful _ _ _ _ d in
       subst (λ (x : Ran). Follows L (x .table) (keep L l c .slots)) (h .ran) (still-follows f c (h .lends .1))

@@ -80,7 +80,8 @@ module _ (en : Entry) where
 
   unfoldable pub entryDigest : ℕ → ℕ → List ℕ
   entryDigest x b =
-      take (digestBytes (en .edition)) (fromWords (entryWidth .bytes) (chain entryWidth (en .startWords) (parse entryWidth (closedBits x b))))
+      take (digestBytes (en .edition))
+      (fromWords (entryWidth .bytes) (chain entryWidth (en .startWords) (parse entryWidth (closedBits x b))))
 
 -- what an entry can be: of an edition, eight words of its width, whole blocks before, bytes since, within the limit; and begun where its
 -- edition begins if nothing stands before

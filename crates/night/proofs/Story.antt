@@ -25,7 +25,7 @@ use Rattle.ledger.proofs.Entries.{with-fine, opened-fine}
 use Rattle.ledger.proofs.Follows.{Follows}
 use Rattle.ledger.proofs.Ledger.{opened-digest}
 use Rattle.ledger.proofs.Client.{Called, record-length, after-layout, after-open, after-add, after-save, after-load, after-close}
-use Rattle.night.specs.Night.{digests, recordRoom, digestIn, fileDigests}
+use Rattle.night.specs.Night.{digests, recordRoom, digestAtFront, fileDigests}
 use Rattle.night.specs.code.Held.{holding, Held, Fitting, Roomy}
 
 here : {L : ℕ} {t : List ℕ} {l : List Slot} → Follows L t l → Follows (length t) t l
@@ -141,5 +141,5 @@ closed-all e a b c out1 out2 out3 f room o1 o2 o3 =
     λ i. digests (d1 i) (d2 i) (d3 i)
   where
     -- an entry that was given the file has the standard's digest of it
-    standard : (file out : List ℕ) → atFront (entryDigest (with (openedEntry e) file) 0 0) out ≡ digestIn e file out
+    standard : (file out : List ℕ) → atFront (entryDigest (with (openedEntry e) file) 0 0) out ≡ digestAtFront e file out
     standard file out = ap (λ (d : List ℕ). atFront d out) (opened-digest e file 0 0)

@@ -51,11 +51,11 @@ outputTests e size saved out =
     ∷ []
 
 -- the digest of a file, at the front of its output
-abbrev pub digestIn : ℕ → List ℕ → List ℕ → List ℕ
-digestIn e file out = atFront (digest e (message file 0 0)) out
+abbrev pub digestAtFront : ℕ → List ℕ → List ℕ → List ℕ
+digestAtFront e file out = atFront (digest e (message file 0 0)) out
 
 unfoldable pub fileDigests : ℕ → List ℕ → List ℕ → List ℕ → Digests → Digests
-fileDigests e a b c out = digests (digestIn e a (out .ofA)) (digestIn e b (out .ofB)) (digestIn e c (out .ofC))
+fileDigests e a b c out = digests (digestAtFront e a (out .ofA)) (digestAtFront e b (out .ofB)) (digestAtFront e c (out .ofC))
 
 -- of the first file `cut` bytes had come when it was saved, or all; the night answered the number n, and left the outputs as they are then
 abbrev pub Night : (table anew : List ℕ) (e : ℕ) (a : List ℕ) (cut : ℕ) (b c saved : List ℕ) (out : Digests) (n : ℕ) (left : Digests) →

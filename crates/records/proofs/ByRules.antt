@@ -33,7 +33,7 @@ use Rattle.halfread.proofs.Rules.{tail-lt}
 use Rattle.halfread.proofs.Tails.{length-padded, take-padded, getD-padded}
 use Rattle.records.specs.Record.{Form, wordCount, numberBytes, wordsAt, tailAt, header}
 use Rattle.records.specs.Record.{recordIn, readIn, isRecordIn}
-use Rattle.records.specs.Rules.{Rules, Lengths, editionIn, leftIn, chainIn, tailIn, longestOf}
+use Rattle.records.specs.Rules.{Rules, Lengths, editionTold, leftIn, chainIn, tailIn, longestOf}
 use Rattle.records.proofs.Forms.{header-in-order, length-header, length-record, form-loaded-sound, form-loaded-saves}
 use Rattle.records.proofs.Forms.{length-recordIn, recordIn-bytes, form-saved-loads}
 
@@ -44,10 +44,10 @@ module _ (f : Form) (bytes : List ℕ) where
   H = readIn f bytes
 
   abbrev n : ℕ
-  n = width (editionIn bytes) .bytes
+  n = width (editionTold bytes) .bytes
 
   abbrev tailFrom : ℕ
-  tailFrom = tailAt f (editionIn bytes)
+  tailFrom = tailAt f (editionTold bytes)
 
   eight : length (H .words) ≡ wordCount
   unfolding readIn
@@ -65,7 +65,7 @@ module _ (f : Form) (bytes : List ℕ) where
   tail-read : length bytes ≡ tailFrom + leftIn f bytes → (k : ℕ) → k < tailRoom → getD (H .tail) k 0 ≡ tailIn f bytes k
   unfolding readIn
   tail-read long k p =
-      getD-padded (drop tailFrom bytes) (simp length-drop (omega (arith, tail-lt H, block-within (editionIn bytes)))) k
+      getD-padded (drop tailFrom bytes) (simp length-drop (omega (arith, tail-lt H, block-within (editionTold bytes)))) k
       ∙ getD-drop tailFrom bytes k 0
 
   -- a record is as long as its fields say
@@ -98,7 +98,7 @@ module _ (f : Form) where
     pub form-record-keeps : Rules f bytes
     unfolding header readIn
     form-record-keeps =
-        let e = editionIn bytes in
+        let e = editionTold bytes in
         let small = tail-lt (H f bytes) in
         let whole = stands 6 (omega (arith, fits e, small)) in
         record {
@@ -153,7 +153,7 @@ module _ (f : Form) (bytes : List ℕ) (all : Bytes bytes) (r : Rules f bytes) w
   tail-is : pending (H f bytes) ≡ drop (tailFrom f bytes) bytes
   unfolding readIn
   tail-is =
-      take-padded (drop (tailFrom f bytes) bytes) (leftIn f bytes) (omega (arith, tail-lt (H f bytes), block-within (editionIn bytes)))
+      take-padded (drop (tailFrom f bytes) bytes) (leftIn f bytes) (omega (arith, tail-lt (H f bytes), block-within (editionTold bytes)))
       (simp length-drop (omega (arith, sized)))
 
   made : recordIn f (H f bytes) ≡ bytes
@@ -177,7 +177,7 @@ form-record-rules f fits bytes all = (form-record-keeps f fits bytes, form-keeps
 
 module _ (f : Form) where
   -- the tail begins behind the words and wants at least a byte of a block
-  inside : (e : ℕ) (bytes : List ℕ) → isRecordIn f bytes ≡ true → editionIn bytes ≡ e →
+  inside : (e : ℕ) (bytes : List ℕ) → isRecordIn f bytes ≡ true → editionTold bytes ≡ e →
       (tailAt f e ≤ length bytes) × (length bytes ≤ longestOf f e)
   unfolding readIn
   inside e bytes isOne isE =
@@ -214,7 +214,7 @@ module _ (f : Form) where
         let size : 0 + length message ≡ k = omega (arith, length-replicate {A = ℕ} k 0) in
         ap (λ (m : ℕ). m % blockBytes (width e)) size ∙ mod-eq-of-lt short
 
-    met : (bytes : List ℕ) × Bytes bytes × (isRecordIn f bytes ≡ true) × (editionIn bytes ≡ e) × (length bytes ≡ tailAt f e + k)
+    met : (bytes : List ℕ) × Bytes bytes × (isRecordIn f bytes ≡ true) × (editionTold bytes ≡ e) × (length bytes ≡ tailAt f e + k)
     unfolding opened added readIn
     met =
         let both = form-saved-loads f room taken taken-sound taken-shaped in (

@@ -14,38 +14,38 @@ use Rattle.records.specs.Record.{Form, wordCount, numberBytes, editionAt
 use Rattle.records.specs.Record.{tailLengthAt, wholeLengthAt, zerosAt, wordsAt, tailAt, isRecordIn}
 
 -- the edition that bytes tell of
-abbrev pub editionIn : List ℕ → ℕ
-editionIn bytes = fieldIn bytes editionAt numberBytes
+abbrev pub editionTold : List ℕ → ℕ
+editionTold bytes = fieldIn bytes editionAt numberBytes
 
 module _ (f : Form) (bytes : List ℕ) where
   -- the bytes taken, c, and how many of them are left after whole blocks, c mod B
-  abbrev pub countIn : ℕ
-  countIn = fieldIn bytes countAt (f .countBytes)
+  abbrev pub countTold : ℕ
+  countTold = fieldIn bytes countAt (f .countBytes)
 
   abbrev pub leftIn : ℕ
-  leftIn = countIn % blockBytes (width (editionIn bytes))
+  leftIn = countTold % blockBytes (width (editionTold bytes))
 
   -- chaining word j, w/8 bytes of the record
   abbrev pub chainIn : ℕ → ℕ
-  chainIn j = let n : ℕ = width (editionIn bytes) .bytes in fieldIn bytes (wordsAt f + j * n) n
+  chainIn j = let n : ℕ = width (editionTold bytes) .bytes in fieldIn bytes (wordsAt f + j * n) n
 
   -- byte k of the tail; behind the last byte of the record there are zeros
   abbrev pub tailIn : ℕ → ℕ
-  tailIn k = getD bytes (tailAt f (editionIn bytes) + k) 0
+  tailIn k = getD bytes (tailAt f (editionTold bytes) + k) 0
 
   -- the lines of the table but edition and count, which the rules below ask: count of words, words at, tail at, tail length, whole
   -- length, spare; then what is lent, words and tail
   pub record Rules : Type 0 where
     pub counted : fieldIn bytes wordCountAt numberBytes ≡ wordCount
     pub wordsFrom : fieldIn bytes wordsFieldAt numberBytes ≡ wordsAt f
-    pub tailFrom : fieldIn bytes tailFieldAt numberBytes ≡ tailAt f (editionIn bytes)
+    pub tailFrom : fieldIn bytes tailFieldAt numberBytes ≡ tailAt f (editionTold bytes)
     pub tailLong : fieldIn bytes (tailLengthAt f) numberBytes ≡ leftIn
-    pub wholeLong : fieldIn bytes (wholeLengthAt f) numberBytes ≡ tailAt f (editionIn bytes) + leftIn
+    pub wholeLong : fieldIn bytes (wholeLengthAt f) numberBytes ≡ tailAt f (editionTold bytes) + leftIn
     pub zeros : fieldIn bytes (zerosAt f) (f .zeroBytes) ≡ 0
     -- as many bytes are lent as the whole length says
     pub lent : length bytes ≡ fieldIn bytes (wholeLengthAt f) numberBytes
     -- what they tell of keeps the five rules of a sound, taken bay: edition, length, words, tail, start
-    pub keeps : FiveRules (editionIn bytes) countIn chainIn tailIn
+    pub keeps : FiveRules (editionTold bytes) countTold chainIn tailIn
 
 -- the longest record of an edition, whose tail wants one byte of a block
 abbrev pub longestOf : Form → ℕ → ℕ
@@ -53,6 +53,6 @@ longestOf f e = tailAt f e + blockBytes (width e) - 1
 
 -- records of an edition have from `least` to `most` bytes, and each length between is that of one
 pub record Lengths (f : Form) (e least most : ℕ) : Type 0 where
-  pub within : (bytes : List ℕ) → isRecordIn f bytes ≡ true → editionIn bytes ≡ e → (least ≤ length bytes) × (length bytes ≤ most)
+  pub within : (bytes : List ℕ) → isRecordIn f bytes ≡ true → editionTold bytes ≡ e → (least ≤ length bytes) × (length bytes ≤ most)
   pub met : (n : ℕ) → least ≤ n → n ≤ most →
-      (bytes : List ℕ) × Bytes bytes × (isRecordIn f bytes ≡ true) × (editionIn bytes ≡ e) × (length bytes ≡ n)
+      (bytes : List ℕ) × Bytes bytes × (isRecordIn f bytes ≡ true) × (editionTold bytes ≡ e) × (length bytes ≡ n)

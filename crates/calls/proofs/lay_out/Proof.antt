@@ -7,4 +7,6 @@ use Rattle.calls.proofs.lay_out.Tie as tie
 pub lay-out-spec : {M : Type 1} → statement M
 lay-out-spec =
     tie.close
-    (tie.spec (λ c κs. search needs) (λ c. search needs) (λ c. (laying-out _ _ (c .before .before .lay-out .ensures), ((λ i. c .before .before .before .before .slice-known .given i .fits), tt))))
+    (tie.spec (λ c κs. search needs) (λ c. search needs)
+    (λ c.
+    (laying-out _ _ (c .before .before .lay-out .ensures), ((λ i. c .before .before .before .before .slice-known .given i .fits), tt))))

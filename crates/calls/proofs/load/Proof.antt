@@ -57,7 +57,8 @@ returns-4 c =
     let s = start (l .before) in (
       loaded-at (s .args .table .now) (s .args .bay) (passed (l .before)) (s .args .«record» .now)
           (l .load .result .answer) (l .load .result .half) (l .load .ensures) (v .before .before .enum-told2 .given .1)
-          (sym (free-first _ _ (passed (l .before)) (v .gate-free .ensures)) ∙ ap numberOf (p .before .before .before .enum-told3 .given .1))
+          (sym (free-first _ _ (passed (l .before)) (v .gate-free .ensures))
+          ∙ ap numberOf (p .before .before .before .enum-told3 .given .1))
           (p .put-at .last .0)
           (p .put-at .ensures ∙ gate-writes _ _ (passed (l .before))),
       lends (l .before .before .before .before .before),
