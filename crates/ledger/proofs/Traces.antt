@@ -6,9 +6,8 @@ use mathlib.Core.List.{List, [], _∷_}
 use mathlib.Core.Path.{_≡_, refl, sym, ap, ap₂, subst, _∙_}
 use lib.ListN.{length, replicate}
 use Rattle.answers.specs.Judged.{first, after, lent}
-use Rattle.bays.specs.Table.{bayAt}
 use Rattle.bays.proofs.Frames.{below-bayAt}
-use Rattle.calls.specs.Calls.{Call, layOut, asking, outputOf, Lends, tests, leaves, Told, nothingTold, tells, Outcome, Asks, Seen, Ran, run}
+use Rattle.calls.specs.Calls.{Call, asking, Lends, tests, leaves, Told, nothingTold, tells, Outcome, Asks, Seen, Ran, run}
 use Rattle.ledger.specs.Ledger.{Slot, nothing, keep}
 use Rattle.ledger.specs.Promise.{saidOf, slotsAfter, Undamaged}
 use Rattle.ledger.specs.Sound.{SoundTable, ledgerOf}

@@ -4,14 +4,12 @@ use Prim.Native.Nat.{ℕ}
 use mathlib.Core.Bool.{Bool, true, false, cond}
 use mathlib.Core.List.{List, [], _∷_, _++_}
 use mathlib.Core.Path.{_≡_, refl, sym, ap, subst, _∙_}
-use lib.ListN.{length}
 use Rattle.slices.specs.Below.{Bytes}
 use Rattle.fips.specs.Editions.{known}
 use Rattle.lists.specs.Calls.{pairIn}
 use Rattle.lists.specs.Layout.{editionIn, readList, accepted}
 use Rattle.lists.proofs.Lists.{accepted-valid}
 use Rattle.lists.proofs.Written.{valid-list}
-use Rattle.bays.specs.Table.{roomFor}
 use Rattle.lines.specs.declared.Verdict.{Verdict}
 use Rattle.lines.specs.declared.Why.{Why}
 use Rattle.report.specs.declared.Brought.{Brought}
