@@ -1,5 +1,6 @@
--- Roots and root words: SPEC, "Constants, by rule". For every exponent, width and number, `rootWord-rule` says that `rootWord`
--- meets its rule, `rootWord-unique` that no other word does, `rootWord-upper` that a word of fewer bits is the upper part of a longer one.
+-- Roots and root words: SPEC, "Constants, by rule". For every width and number, and every exponent but 0, `rootWord-rule` says that
+-- `rootWord` meets its rule, and `rootWord-upper` that a word of fewer bits is the upper part of a longer one; for every exponent
+-- `rootWord-unique` says that no other word meets the rule.
 use mathlib.Core.Path.{_≡_, refl, sym, ap, _∙_}
 use mathlib.Core.Bool.{Bool, true, false, cond}
 use mathlib.Core.Logic.{_≢_}
