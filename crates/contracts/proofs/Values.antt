@@ -1,4 +1,4 @@
--- Contracts that say what the result is settle it: of one value, of two, of three.
+-- Contracts that say what the result is settle it: of one value, of two.
 use mathlib.Core.Path.{_≡_, sym, _∙_}
 
 pub value-settled : {A : Type 0} {x r s : A} → r ≡ x → s ≡ x → r ≡ s
@@ -6,7 +6,3 @@ value-settled p q = p ∙ sym q
 
 pub both-settled : {A B : Type 0} {x r s : A} {y l m : B} → (r ≡ x) × (l ≡ y) → (s ≡ x) × (m ≡ y) → _≡_ {A = A × B} (r, l) (s, m)
 both-settled p q = λ i. (value-settled (p .0) (q .0) i, value-settled (p .1) (q .1) i)
-
-pub three-settled : {A B C : Type 0} {x r s : A} {y l m : B} {z u v : C} → (r ≡ x) × (l ≡ y) × (u ≡ z) → (s ≡ x) × (m ≡ y) × (v ≡ z) →
-    _≡_ {A = A × B × C} (r, l, u) (s, m, v)
-three-settled p q = λ i. (value-settled (p .0) (q .0) i, value-settled (p .1) (q .1) i, value-settled (p .2) (q .2) i)
