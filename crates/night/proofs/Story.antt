@@ -51,7 +51,7 @@ module _ (e : ℕ) where
       (omega (arith, length-append x y, ap (length {A = ℕ}) whole))
       ∙ short
 
-  pub pieces-fit : {a b c x y z : List ℕ} (cut : ℕ) → Fitting e a b c → x ≡ part a 0 cut → y ≡ part b 0 cut → z ≡ part c 0 cut →
+  pieces-fit : {a b c x y z : List ℕ} (cut : ℕ) → Fitting e a b c → x ≡ part a 0 cut → y ≡ part b 0 cut → z ≡ part c 0 cut →
       Fitting e x y z
   pieces-fit {a} {b} {c} {x} {y} {z} cut fit p q r =
       record {
@@ -76,12 +76,12 @@ front-saved : (bytes out : List ℕ) (n : ℕ) → length bytes ≡ n → n ≤ 
 front-saved bytes out n e h = rw (atFront-room bytes out (omega arith)) (take-at bytes (drop (length bytes) out) n e)
 
 -- whatever came into the other bays, the record is of what came into the first
-pub saved-half : {t0 t1 t2 t3 t4 t5 to : List ℕ} {r0 r1 r2 r3 r4 : ℕ} (e : ℕ) (a b c saved : List ℕ) → Fitting e a b c →
+saved-first : {t0 t1 t2 t3 t4 t5 to : List ℕ} {r0 r1 r2 r3 r4 : ℕ} (e : ℕ) (a b c saved : List ℕ) → Fitting e a b c →
     Held t0 nothing (holding e []) (holding e []) →
     Called t0 (opening 0 e) r0 t1 [] → Called t1 (adding 1 b) r1 t2 [] → Called t2 (adding 0 a) r2 t3 [] →
     Called t3 (adding 2 c) r3 t4 [] → Called t4 (saving 0 saved) r4 t5 to →
     recordRoom e (length a) ≤ length saved → take (recordRoom e (length a)) to ≡ recordOfMessage e a
-saved-half e a b c saved fit f0 o0 o1 o2 o3 o4 room =
+saved-first e a b c saved fit f0 o0 o1 o2 o3 o4 room =
     let f1 = after-open f0 0 (omega arith) refl e (fit .isKnown) o0 in
     let f2 = after-add f1 1 (omega arith) (openedEntry e) refl b (fit .shortB) o1 in
     let f3 = after-add f2 0 (omega arith) (openedEntry e) refl a (fit .shortA) o2 in
@@ -91,6 +91,17 @@ saved-half e a b c saved fit f0 o0 o1 o2 o3 o4 room =
     record-length en (f4 .fine 0) ∙ ap (recordRoom e) (zero-add (length a)) in
     ap (take (recordRoom e (length a))) (after-save f4 0 (omega arith) en refl saved (omega arith) o4 .1)
     ∙ front-saved (recordOfMessage e a) saved (recordRoom e (length a)) size room
+
+-- so it is of the first bytes of the first file
+pub saved-half : {t0 t1 t2 t3 t4 t5 to : List ℕ} {r0 r1 r2 r3 r4 : ℕ} (e cut : ℕ) (a b c x y z saved : List ℕ) →
+    x ≡ part a 0 cut → y ≡ part b 0 cut → z ≡ part c 0 cut → Fitting e a b c → Held t0 nothing (holding e []) (holding e []) →
+    Called t0 (opening 0 e) r0 t1 [] → Called t1 (adding 1 y) r1 t2 [] → Called t2 (adding 0 x) r2 t3 [] →
+    Called t3 (adding 2 z) r3 t4 [] → Called t4 (saving 0 saved) r4 t5 to →
+    recordRoom e (length (take cut a)) ≤ length saved →
+    take (recordRoom e (length (take cut a))) to ≡ recordOfMessage e (take cut a)
+saved-half {to = to} e cut a b c x y z saved isX isY isZ fit f o0 o1 o2 o3 o4 =
+    subst (λ (m : List ℕ). recordRoom e (length m) ≤ length saved → take (recordRoom e (length m)) to ≡ recordOfMessage e m) isX
+    (saved-first e x y z saved (pieces-fit e cut fit isX isY isZ) f o0 o1 o2 o3 o4)
 
 -- ---- the morning
 

@@ -3,7 +3,7 @@
 -- the record it says nothing but the room that they have.
 use Prim.Native.Nat.{ℕ, _+_, _%_}
 use mathlib.Core.Bool.{not}
-use mathlib.Core.List.{List, [], _∷_, _++_}
+use mathlib.Core.List.{List, [], _∷_}
 use lib.Dec.{ltb}
 use lib.ListN.{length, take}
 use Rattle.answers.specs.Judged.{Test, _when_, Judged}
@@ -24,30 +24,24 @@ pub record Digests : Type 0 where
 abbrev pub digests : List ℕ → List ℕ → List ℕ → Digests
 digests a b c = record { ofA = a; ofB = b; ofC = c }
 
--- the tables of the evening and of the morning: 11 where there is no room for three bays
-unfoldable pub roomTests : List ℕ → List ℕ → List Test
-roomTests table anew = 11 when not (roomFor 3 (length table)) ∷ 11 when not (roomFor 3 (length anew)) ∷ []
-
--- the edition and the files: 5, 7
-unfoldable pub fileTests : ℕ → List ℕ → List ℕ → List ℕ → List Test
-fileTests e a b c =
-    5 when not (known e)
-    ∷ 7 when tooLong e 0 (length a)
-    ∷ 7 when tooLong e 0 (length b)
-    ∷ 7 when tooLong e 0 (length c)
-    ∷ []
-
 -- the record of a message of which so many bytes came: as many of its own
 abbrev pub recordRoom : ℕ → ℕ → ℕ
 recordRoom e count = tailAt newest e + count % blockBytes (width e)
 
--- room for a record of so many bytes and for three digests: 9
-unfoldable pub outputTests : ℕ → ℕ → List ℕ → Digests → List Test
-outputTests e size saved out =
-    9 when ltb (length saved) size
-    ∷ 9 when ltb (length (out .ofA)) (digestBytes e)
-    ∷ 9 when ltb (length (out .ofB)) (digestBytes e)
-    ∷ 9 when ltb (length (out .ofC)) (digestBytes e)
+-- what the night refuses, in order: by the words of the tables, the bytes of the files, those of the record, and the room for it and for
+-- each digest
+unfoldable pub nightTests : (table anew e a b c size saved first second third : ℕ) → List Test
+nightTests table anew e a b c size saved first second third =
+    11 when not (roomFor 3 table)
+    ∷ 11 when not (roomFor 3 anew)
+    ∷ 5 when not (known e)
+    ∷ 7 when tooLong e 0 a
+    ∷ 7 when tooLong e 0 b
+    ∷ 7 when tooLong e 0 c
+    ∷ 9 when ltb saved size
+    ∷ 9 when ltb first (digestBytes e)
+    ∷ 9 when ltb second (digestBytes e)
+    ∷ 9 when ltb third (digestBytes e)
     ∷ []
 
 -- the digest of a file, at the front of its output
@@ -57,9 +51,12 @@ digestAtFront e file out = atFront (digest e (message file 0 0)) out
 unfoldable pub fileDigests : ℕ → List ℕ → List ℕ → List ℕ → Digests → Digests
 fileDigests e a b c out = digests (digestAtFront e a (out .ofA)) (digestAtFront e b (out .ofB)) (digestAtFront e c (out .ofC))
 
--- of the first file `cut` bytes had come when it was saved, or all; the night answered the number n, and left the outputs as they are then
+-- the night answered the number n, and left the outputs as they are then; of the first file `cut` bytes had come when it was saved, or all
+-- where it has no more
 abbrev pub Night : (table anew : List ℕ) (e : ℕ) (a : List ℕ) (cut : ℕ) (b c saved : List ℕ) (out : Digests) (n : ℕ) (left : Digests) →
     Type 0
 Night table anew e a cut b c saved out n left =
-    Judged (roomTests table anew ++ (fileTests e a b c ++ outputTests e (recordRoom e (length (take cut a))) saved out))
+    Judged
+    (nightTests (length table) (length anew) e (length a) (length b) (length c) (recordRoom e (length (take cut a))) (length saved)
+    (length (out .ofA)) (length (out .ofB)) (length (out .ofC)))
     out (fileDigests e a b c out) n left

@@ -1,9 +1,8 @@
-// What does not fit, asked before anything is written: SPEC, "Calls and their numbers".
+// What does not fit, asked before anything is written and by lengths alone: SPEC, "Calls and their numbers".
 ghost use mathlib.Core.Path.{_≡_};
 ghost use Rattle.answers.specs.Judged.{first};
 ghost use Rattle.answers.specs.Numbers.{numberOf};
-ghost use Rattle.night.specs.Night.{recordRoom, roomTests, fileTests, outputTests};
-ghost use Rattle.night.specs.Night.{digests};
+ghost use Rattle.night.specs.Night.{recordRoom, nightTests};
 use answers::Answer;
 use sha2::limit::too_long;
 
@@ -21,59 +20,51 @@ pub(crate) fn record_length(edition: u64, count: usize) -> usize
     WORDS_AT + fips::lookup::block_bytes(edition) / 2 + tail
 }
 
-pub(crate) fn tables(table: &[u64], anew: &[u64]) -> Answer
-    ensures { λ r. ⌜ numberOf r ≡ first (roomTests (now (table .entry)) (now (anew .entry))) ⌝ }
+// The first reason to refuse, by the lengths of what is lent and the size of the record.
+pub(crate) fn refusal(
+    table: usize,
+    anew: usize,
+    edition: u64,
+    a: usize,
+    b: usize,
+    c: usize,
+    size: usize,
+    saved: usize,
+    x: usize,
+    y: usize,
+    z: usize,
+) -> Answer
+    ensures { λ r. ⌜ numberOf r ≡ first (nightTests table anew edition a b c size saved x y z) ⌝ }
 {
-    if table.len() < THREE_BAYS {
+    if table < THREE_BAYS {
         return Answer::BadLayout;
     }
-    if anew.len() < THREE_BAYS {
+    if anew < THREE_BAYS {
         return Answer::BadLayout;
     }
-    Answer::Done
-}
-
-pub(crate) fn files(edition: u64, a: &[u8], b: &[u8], c: &[u8]) -> Answer
-    ensures { λ r. ⌜ numberOf r ≡ first (fileTests edition (now (a .entry)) (now (b .entry)) (now (c .entry))) ⌝ }
-{
     if !fips::lookup::known(edition) {
         return Answer::NoSuchEdition;
     }
-    if too_long(edition, 0, a.len()) {
+    if too_long(edition, 0, a) {
         return Answer::TooLong;
     }
-    if too_long(edition, 0, b.len()) {
+    if too_long(edition, 0, b) {
         return Answer::TooLong;
     }
-    if too_long(edition, 0, c.len()) {
+    if too_long(edition, 0, c) {
         return Answer::TooLong;
     }
-    Answer::Done
-}
-
-pub(crate) fn outputs(
-    edition: u64,
-    size: usize,
-    saved: &[u8],
-    one: &[u8],
-    two: &[u8],
-    three: &[u8],
-) -> Answer
-    ensures { λ r.
-        ⌜ numberOf r ≡ first (outputTests edition size (now (saved .entry))
-        (digests (now (one .entry)) (now (two .entry)) (now (three .entry)))) ⌝ }
-{
-    if saved.len() < size {
+    if saved < size {
         return Answer::ShortOutput;
     }
     let room = fips::lookup::digest_bytes(edition);
-    if one.len() < room {
+    if x < room {
         return Answer::ShortOutput;
     }
-    if two.len() < room {
+    if y < room {
         return Answer::ShortOutput;
     }
-    if three.len() < room {
+    if z < room {
         return Answer::ShortOutput;
     }
     Answer::Done

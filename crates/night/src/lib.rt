@@ -3,7 +3,7 @@
 ghost use Rattle.answers.specs.Numbers.{numberOf};
 ghost use Rattle.night.specs.Night.{digests, Night};
 use answers::Answer;
-use slices::places::part;
+use slices::places::least;
 
 mod fits; // fits.rt: what is refused
 mod evening; // evening.rt: up to the record
@@ -28,39 +28,25 @@ pub fn night(
         (digests (now (first .entry)) (now (second .entry)) (now (third .entry))) (numberOf r)
         (digests (now (first .exit)) (now (second .exit)) (now (third .exit))) ⌝ }
 {
-    let half = part(a, 0, cut);
-    let size = fits::record_length(edition, half.len());
-    let tables = fits::tables(table, anew);
-    let Answer::Done = tables else {
-        return tables;
-    };
-    let files = fits::files(edition, a, b, c);
-    let Answer::Done = files else {
-        return files;
-    };
-    let outputs = fits::outputs(edition, size, saved, first, second, third);
-    let Answer::Done = outputs else {
-        return outputs;
-    };
-    evening::evening(
-        table,
+    let size = fits::record_length(edition, least(cut, a.len()));
+    let refusal = fits::refusal(
+        table.len(),
+        anew.len(),
         edition,
-        half,
-        part(b, 0, cut),
-        part(c, 0, cut),
-        saved,
+        a.len(),
+        b.len(),
+        c.len(),
+        size,
+        saved.len(),
+        first.len(),
+        second.len(),
+        third.len(),
     );
-    morning::morning(
-        anew,
-        edition,
-        part(saved, 0, size),
-        a,
-        cut,
-        b,
-        c,
-        first,
-        second,
-        third,
-    );
+    let Answer::Done = refusal else {
+        return refusal;
+    };
+    evening::evening(table, edition, a, cut, b, c, saved);
+    morning::morning(anew, edition, size, saved, a, cut, b, c);
+    morning::close_all(anew, first, second, third);
     Answer::Done
 }

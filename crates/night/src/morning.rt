@@ -36,7 +36,29 @@ fn go_on(table: &mut [u64], a: &[u8], cut: usize, b: &[u8], c: &[u8])
     calls::add(table, 2, part(c, cut, c.len()));
 }
 
-fn close_all(table: &mut [u64], first: &mut [u8], second: &mut [u8], third: &mut [u8])
+// The record is the first `size` bytes of what was saved.
+pub(crate) fn morning(
+    anew: &mut [u64],
+    edition: u64,
+    size: usize,
+    saved: &[u8],
+    a: &[u8],
+    cut: usize,
+    b: &[u8],
+    c: &[u8],
+)
+    ensures { λ _.
+        ⌜ (roomFor 3 (length (now (anew .entry))) ≡ true → Fitting edition (now (a .entry)) (now (b .entry)) (now (c .entry)) →
+        take size (now (saved .entry)) ≡ recordOfMessage edition (take cut (now (a .entry))) →
+        Held (now (anew .exit)) (holding edition (now (a .entry))) (holding edition (now (b .entry)))
+        (holding edition (now (c .entry)))) ⌝ }
+{
+    laid(anew, edition);
+    take_up(anew, part(saved, 0, size));
+    go_on(anew, a, cut, b, c);
+}
+
+pub(crate) fn close_all(table: &mut [u64], first: &mut [u8], second: &mut [u8], third: &mut [u8])
     ensures { λ _.
         ⌜ ((e : ℕ) (a b c : List ℕ) → Held (now (table .entry)) (holding e a) (holding e b) (holding e c) →
         Roomy e (digests (now (first .entry)) (now (second .entry)) (now (third .entry))) →
@@ -46,30 +68,4 @@ fn close_all(table: &mut [u64], first: &mut [u8], second: &mut [u8], third: &mut
     calls::close(table, 0, 0, 0, first);
     calls::close(table, 1, 0, 0, second);
     calls::close(table, 2, 0, 0, third);
-}
-
-pub(crate) fn morning(
-    anew: &mut [u64],
-    edition: u64,
-    saved: &[u8],
-    a: &[u8],
-    cut: usize,
-    b: &[u8],
-    c: &[u8],
-    first: &mut [u8],
-    second: &mut [u8],
-    third: &mut [u8],
-)
-    ensures { λ _.
-        ⌜ (roomFor 3 (length (now (anew .entry))) ≡ true → Fitting edition (now (a .entry)) (now (b .entry)) (now (c .entry)) →
-        now (saved .entry) ≡ recordOfMessage edition (take cut (now (a .entry))) →
-        Roomy edition (digests (now (first .entry)) (now (second .entry)) (now (third .entry))) →
-        digests (now (first .exit)) (now (second .exit)) (now (third .exit))
-        ≡ fileDigests edition (now (a .entry)) (now (b .entry)) (now (c .entry))
-        (digests (now (first .entry)) (now (second .entry)) (now (third .entry)))) ⌝ }
-{
-    laid(anew, edition);
-    take_up(anew, saved);
-    go_on(anew, a, cut, b, c);
-    close_all(anew, first, second, third);
 }

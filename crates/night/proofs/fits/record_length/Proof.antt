@@ -20,4 +20,4 @@ add-result-2 c =
 pub record-length-spec : {M : Type 1} → statement M
 record-length-spec =
     tie.close
-    (tie.spec (λ c κs. search needs) (λ c κs. search needs) (λ c. search needs) add-result-2 (λ c. search needs))
+    (tie.spec (λ c κs. tt) (λ c κs. tt) (λ c. search needs) add-result-2 (λ c. search needs))

@@ -1,4 +1,5 @@
--- `night::morning::morning` meets its contract: laid out, taken up from the record, gone on with and closed. Assumes nothing.
+-- `night::morning::morning` meets its contract: laid out, taken up from the record and gone on with. Assumes nothing.
+use mathlib.Core.Path.{_∙_}
 use borrow.Author.Needs.{needs}
 use Rattle.slices.specs.Below.{Bytes}
 use Rattle.night.proofs.Story.{taken-up}
@@ -6,21 +7,16 @@ use Rattle.night.proofs.morning.morning.Statement.{statement}
 use Rattle.night.proofs.morning.morning.Tie as tie
 
 returns : tie.Need-returns
-returns c room fit same outputs =
-    let k = c .before .before .before .before .before .before .before .before in
-    let g = k .before .before .before .before .before .before .before in
+returns c room fit same =
+    let g = c .before .before in
     let u = g .before .before .before .before in
-    let l = u .before .before .before .before in
-    let n = l .before .before .before .before .before .before .before in
+    let l = u .before .before .before .before .before in
+    let n = l .before .before .before .before in
     let x = n .before .before .before .args in
     let aBytes : Bytes (x .a .now) = λ i. n .shared-slice-known2 .given i .fits in
-    let up = taken-up _ (x .cut) (x .a .now) (x .b .now) (x .c .now) _ aBytes fit (l .laid .ensures room (fit .isKnown)) same
-    (u .take-up .ensures) in
-    k .close-all .ensures _ _ _ _ (g .go-on .ensures _ fit up) outputs
+    let up = taken-up _ (x .cut) (x .a .now) (x .b .now) (x .c .now) _ aBytes fit (l .laid .ensures room (fit .isKnown))
+    (u .before .part .ensures .0 ∙ same) (u .take-up .ensures) in
+    g .go-on .ensures _ fit up
 
 pub morning-spec : {M : Type 1} → statement M
-morning-spec =
-    tie.close
-    (tie.spec
-    (λ c κs. search needs) (λ c κs. search needs) (λ c κs. search needs) (λ c κs. search needs)
-    (λ c. search needs) (λ c. search needs) (λ c. search needs) (λ c. search needs) returns)
+morning-spec = tie.close (tie.spec (λ c κs. tt) (λ c κs. tt) (λ c κs. tt) (λ c κs. tt) (λ c. search needs) returns)
