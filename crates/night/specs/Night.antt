@@ -24,12 +24,12 @@ pub record Digests : Type 0 where
 abbrev pub digests : List ℕ → List ℕ → List ℕ → Digests
 digests a b c = record { ofA = a; ofB = b; ofC = c }
 
--- the record of a message of which so many bytes came: as many of its own
+-- how long the record is of a message of which so many bytes came
 abbrev pub recordRoom : ℕ → ℕ → ℕ
 recordRoom e count = tailAt newest e + count % blockBytes (width e)
 
--- what the night refuses, in order: by the words of the tables, the bytes of the files, those of the record, and the room for it and for
--- each digest
+-- what the night refuses, in order: by the words of the two tables, the edition, the bytes of the three files, those of the record, and
+-- the room that is lent for it and for the three digests
 unfoldable pub nightTests : (table anew e a b c size saved first second third : ℕ) → List Test
 nightTests table anew e a b c size saved first second third =
     11 when not (roomFor 3 table)

@@ -1,6 +1,5 @@
 -- `night::morning::go_on` meets its contract: each bay gets what its file still lacks. Assumes nothing.
 use mathlib.Core.Path.{_∙_}
-use borrow.Author.Needs.{needs}
 use Rattle.night.proofs.Story.{gone-on}
 use Rattle.night.proofs.morning.go_on.Statement.{statement}
 use Rattle.night.proofs.morning.go_on.Tie as tie
