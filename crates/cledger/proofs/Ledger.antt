@@ -1,5 +1,5 @@
--- The C names keep the ledger's promise: `c-ledger` after a layout, `c-ledger-sound` from any sound table, `c-opened-closed` and
--- `c-loaded-closed` from a message's beginning to its digest, each over the C functions' own contracts; and there are such calls,
+-- The C names keep the ledger's promise: `c-ledger` after a layout, `c-ledger-sound` from any sound table, `c-opened-writes` and
+-- `c-loaded-writes` from a message's beginning to its digest, each over the C functions' own contracts; and there are such calls,
 -- `c-traced`.
 use Prim.Native.Nat.{ℕ, _^_}
 use mathlib.Core.List.{List, []}
@@ -9,10 +9,11 @@ use Rattle.answers.specs.Numbers.{numberOf}
 use Rattle.slices.specs.Below.{Below}
 use Rattle.calls.specs.Calls.{Call, layOut, opening, adding, closing, saving, loading, asking, dropping, Lends, leaves, tells, Seen}
 use Rattle.ledger.specs.Promise.{AllPassed}
-use Rattle.ledger.specs.Traces.{FromSound, FromLayout}
-use Rattle.ledger.specs.Ends.{OpenedCloses, LoadedCloses}
-use Rattle.ledger.proofs.Traces.{Faith, Faithful, outcome-faith, ask-faith, from-sound, from-layout}
-use Rattle.ledger.proofs.Ends.{opened-closed, loaded-closed}
+use Rattle.ledger.specs.Traces.{FromSound, FromLayout, StaySound, LaySound, RefusedKeeps, CallersKept}
+use Rattle.ledger.specs.Ends.{OpenedWrites, LoadedWrites}
+use Rattle.ledger.proofs.Traces.{Faith, Faithful, outcome-faith, ask-faith, from-sound, from-layout, stays-sound, lays-sound}
+use Rattle.ledger.proofs.Kept.{refused-keeps, callers-kept}
+use Rattle.ledger.proofs.Ends.{opened-writes, loaded-writes}
 use Rattle.ledger.proofs.Traced.{Some, some, call, Traced, answered, left, says, both, alone, kept, asked, slice, traced}
 use Rattle.cledger.specs.Code.{Did, lay-out-did, open-did, add-did, close-did, save-did, load-did, ask-did, drop-did}
 
@@ -36,11 +37,23 @@ c-ledger = from-layout Did c-faithful
 pub c-ledger-sound : FromSound Did
 c-ledger-sound = from-sound Did c-faithful
 
-pub c-opened-closed : OpenedCloses Did
-c-opened-closed = opened-closed Did c-faithful
+pub c-stays-sound : StaySound Did
+c-stays-sound = stays-sound Did c-faithful
 
-pub c-loaded-closed : LoadedCloses Did
-c-loaded-closed = loaded-closed Did c-faithful
+pub c-lays-sound : LaySound Did
+c-lays-sound = lays-sound Did c-faithful
+
+pub c-refused-keeps : RefusedKeeps Did
+c-refused-keeps = refused-keeps Did c-faithful
+
+pub c-callers-kept : CallersKept Did
+c-callers-kept = callers-kept Did c-faithful
+
+pub c-opened-writes : OpenedWrites Did
+c-opened-writes = opened-writes Did c-faithful
+
+pub c-loaded-writes : LoadedWrites Did
+c-loaded-writes = loaded-writes Did c-faithful
 
 -- ---- there are such calls
 

@@ -23,6 +23,8 @@ use Rattle.calls.specs.Calls.{Call, layOut, run}
 use Rattle.ledger.specs.Ledger.{Entry, Fine, FineSlot, Slot, nothing, entry, openedEntry, loadedEntry, with, entryRecord}
 use Rattle.ledger.specs.Ledger.{slotRecord, Ready, SameRecords}
 use Rattle.ledger.specs.Promise.{AllPassed, saidOf, slotsAfter}
+use Rattle.ledger.specs.Records.{loads}
+use Rattle.ledger.proofs.OwnRecord.{loads-agree}
 use Rattle.ledger.proofs.Entries.{stateOf, record-entry, state-facts, state-shaped, opened-fine, with-fine, loaded-state}
 use Rattle.ledger.proofs.Entries.{loaded-fine}
 use Rattle.ledger.proofs.Follows.{Follows, slotBay, put-follows, laid-follows}
@@ -169,6 +171,10 @@ module _ (e : ℕ) (m : List ℕ) (k : known e ≡ true) (all : Bytes m) (short 
   rec-loads : isRecord rec ≡ true
   unfolding rec
   rec-loads = state-loads given given-fine .1
+
+  pub message-loads : loads (recordOfMessage e m) ≡ true
+  unfolding rec
+  message-loads = loads-agree rec rec-bytes ∙ rec-loads
 
   loaded-record : slotRecord (entry (loadedEntry rec)) ≡ slotRecord (entry given)
   unfolding rec

@@ -1,5 +1,5 @@
--- A message from its beginning to its digest, among any other calls: `opened-closed`, `loaded-closed`, and of the functions in src
--- `code-opened-closed`, `code-loaded-closed`. In the ledger a bay keeps its entry, with what it is given, until a call that is done ends
+-- A message from its beginning to its digest or its record, among any other calls: `opened-writes`, `loaded-writes`, and of the functions in
+-- src `code-opened-writes`, `code-loaded-writes`. In the ledger a bay keeps its entry, with what it is given, until a call that is done ends
 -- it.
 use Prim.Native.Nat.{ℕ, zero, suc, _<_}
 use mathlib.Core.Bool.{Bool, true, false, cond, false≢true}
@@ -19,13 +19,14 @@ use Rattle.calls.specs.Calls.{Call, layOut, opening, adding, closing, saving, l
 use Rattle.ledger.specs.Ledger.{Entry, Slot, nothing, entry, openedEntry, loadedEntry, with, isEntry, slotWith, slotDigest}
 use Rattle.ledger.specs.Ledger.{ledgerTests, kept, written, keep}
 use Rattle.ledger.specs.Promise.{saidOf, slotsAfter}
-use Rattle.ledger.specs.Sound.{ledgerOf}
+use Rattle.ledger.specs.Records.{loads}
+use Rattle.ledger.specs.Sound.{SoundTable, ledgerOf}
 use Rattle.ledger.specs.Traces.{Doing, Trace}
 use Rattle.ledger.specs.Code.{Did}
-use Rattle.ledger.specs.Ends.{pieceFor, endsBay, givenTo, Stays, recordOfMessage, OpenedCloses, LoadedCloses}
+use Rattle.ledger.specs.Ends.{pieceFor, endsBay, givenTo, Stays, recordOfMessage, OpenedWrites, LoadedWrites}
 use Rattle.ledger.proofs.Follows.{Follows}
 use Rattle.ledger.proofs.Ledger.{opened-digest}
-use Rattle.ledger.proofs.Alike.{follows-loaded}
+use Rattle.ledger.proofs.Alike.{follows-loaded, message-loads}
 use Rattle.ledger.proofs.Traces.{Faithful, did-seen, did-follows, did-sound, trace-seen, trace-follows, code-faithful}
 
 -- ---- one bay in the ledger
@@ -115,6 +116,16 @@ unfolding keep ledgerTests kept
 loading-puts L l i bytes z =
     filled L l (loading i bytes) i (entry (loadedEntry bytes)) z (passed (ledgerTests L l (loading i bytes)) tt z 0) refl
 
+-- bytes that load are not refused as none
+not-ten : (L : ℕ) (l : List Slot) (i : ℕ) (bytes : List ℕ) → loads bytes ≡ true → keep L l (loading i bytes) .seen .answer ≡ 10 → ⊥
+unfolding keep ledgerTests first
+not-ten L l i bytes ok e = go (leb (length l) i) (isEntry (getD l i nothing)) (rw ok at e)
+  where
+    go : (a b : Bool) → _≡_ {A = ℕ} (cond a 2 (cond b 3 0)) 10 → ⊥
+    go true b q = omega arith
+    go false true q = omega arith
+    go false false q = omega arith
+
 -- any calls
 all-still : (L : ℕ) (l : List Slot) (i : ℕ) → i < length l → (en : Entry) → getD l i nothing ≡ entry en → (cs : List Call) →
     Stays i cs (saidOf L l cs) → Still i en (slotsAfter L l cs) (givenTo i cs (saidOf L l cs))
@@ -126,48 +137,88 @@ all-still L l i h en is (c ∷ cs) st =
     let rest = all-still L (keep L l c .slots) i (k .inside) (with en p) (k .held) cs (st .1) in
     record { inside = rest .inside; held = rest .held ∙ ap entry (more en p (givenTo i cs (saidOf L (keep L l c .slots) cs))) }
 
+-- what closing and saving a message that was opened writes
+module _ (i e : ℕ) where
+  abbrev Law : Call → (List ℕ → List ℕ) → Type 0
+  Law c wrote =
+      (L : ℕ) (l : List Slot) (g : List ℕ) → i < length l → getD l i nothing ≡ entry (with (openedEntry e) g) →
+      keep L l c .seen .answer ≡ 0 → keep L l c .seen .output ≡ wrote g
+
+  closing-law : (x b : ℕ) (out : List ℕ) → Law (closing i x b out) (λ g. atFront (digest e (message g x b)) out)
+  closing-law x b out L l g h is z =
+      closing-writes L l i h (with (openedEntry e) g) is x b out z ∙ ap (λ (d : List ℕ). atFront d out) (opened-digest e g x b)
+
+  saving-law : (out : List ℕ) → Law (saving i out) (λ g. atFront (recordOfMessage e g) out)
+  unfolding keep written
+  saving-law out L l g h is z = rw (z, is)
+
 -- ---- calls that were made
 
 module _ (D : Doing) (faithful : Faithful D) where
   -- from a ledger in which bay i holds m bytes of a message that was opened
-  closes : {L : ℕ} {t : List ℕ} {l : List Slot} → Follows L t l → (i : ℕ) → i < length l → (e : ℕ) (m : List ℕ) →
-      getD l i nothing ≡ entry (with (openedEntry e) m) →
+  ends : {L : ℕ} {t : List ℕ} {l : List Slot} → Follows L t l → (i : ℕ) → i < length l → (e : ℕ) (m : List ℕ) →
+      getD l i nothing ≡ entry (with (openedEntry e) m) → (c : Call) (wrote : List ℕ → List ℕ) → Law i e c wrote →
       (calls : List Call) (shown : List Seen) (u : List ℕ) → Trace D t calls shown u → Stays i calls shown →
-      (x b : ℕ) (out : List ℕ) (last : Seen) (v : List ℕ) → D u (closing i x b out) last v → last .answer ≡ 0 →
-      last .output ≡ atFront (digest e (message (m ++ givenTo i calls shown) x b)) out
-  closes {L} {t} {l} f i h e m is calls shown u made stays x b out last v did z =
+      (z : Seen) (v : List ℕ) → D u c z v → z .answer ≡ 0 → z .output ≡ wrote (m ++ givenTo i calls shown)
+  ends {L} {t} {l} f i h e m is c wrote law calls shown u made stays z v did ok =
       let said = trace-seen D faithful f made in
-      let g = trace-follows D faithful f made in
-      let seen = did-seen D faithful g did in
+      let seen = did-seen D faithful (trace-follows D faithful f made) did in
       let all : List ℕ = givenTo i calls (saidOf L l calls) in
       let still = all-still L l i h (with (openedEntry e) m) is calls (subst (Stays i calls) said stays) in
       ap (λ (s : Seen). s .output) seen
-      ∙ closing-writes L (slotsAfter L l calls) i (still .inside) (with (openedEntry e) (m ++ all)) (still .held) x b out
-      (ap (λ (s : Seen). s .answer) (sym seen) ∙ z)
-      ∙ ap (λ (d : List ℕ). atFront d out) (opened-digest e (m ++ all) x b)
-      ∙ ap (λ (ss : List Seen). atFront (digest e (message (m ++ givenTo i calls ss) x b)) out) (sym said)
+      ∙ law L (slotsAfter L l calls) (m ++ all) (still .inside) (still .held) (ap (λ (s : Seen). s .answer) (sym seen) ∙ ok)
+      ∙ ap (λ (ss : List Seen). wrote (m ++ givenTo i calls ss)) (sym said)
 
-  pub opened-closed : OpenedCloses D
-  opened-closed i e t t' s sound did z =
-      let f = did-sound D faithful sound did in
-      let n = ap (λ (y : Seen). y .answer) (sym (did-seen D faithful f did)) ∙ z in
-      let put = opening-puts (length t) (ledgerOf t) i e n in
-      let g = subst (Follows (length t) t') (put .1) (did-follows D faithful f did) in
-      closes g i (omega (arith, put .0, length-set (ledgerOf t) i (entry (openedEntry e)))) e []
-      (getD-set-same (ledgerOf t) i (entry (openedEntry e)) nothing (put .0))
+  answered : {L : ℕ} {t u : List ℕ} {l : List Slot} {c : Call} {s : Seen} → Follows L t l → D t c s u → s .answer ≡ 0 →
+      keep L l c .seen .answer ≡ 0
+  answered f d z = ap (λ (y : Seen). y .answer) (sym (did-seen D faithful f d)) ∙ z
 
-  pub loaded-closed : LoadedCloses D
-  loaded-closed i e m k all short t t' s sound did z =
-      let f = did-sound D faithful sound did in
-      let n = ap (λ (y : Seen). y .answer) (sym (did-seen D faithful f did)) ∙ z in
-      let put = loading-puts (length t) (ledgerOf t) i (recordOfMessage e m) n in
-      let g = subst (Follows (length t) t') (put .1) (did-follows D faithful f did) in
-      closes (follows-loaded f i (put .0) e m k all short g) i
-      (omega (arith, put .0, length-set (ledgerOf t) i (entry (with (openedEntry e) m)))) e m
-      (getD-set-same (ledgerOf t) i (entry (with (openedEntry e) m)) nothing (put .0))
+  pub opened-writes : OpenedWrites D
+  opened-writes i e = (
+    (λ x b out t t' s sound did z. from t t' s sound did z (closing i x b out) _ (closing-law i e x b out)),
+    (λ out t t' s sound did z. from t t' s sound did z (saving i out) _ (saving-law i e out)),
+  )
+    where
+      from : (t t' : List ℕ) (s : Seen) → SoundTable t → D t (opening i e) s t' → s .answer ≡ 0 →
+          (c : Call) (wrote : List ℕ → List ℕ) → Law i e c wrote →
+          (calls : List Call) (shown : List Seen) (u : List ℕ) → Trace D t' calls shown u → Stays i calls shown →
+          (z : Seen) (v : List ℕ) → D u c z v → z .answer ≡ 0 → z .output ≡ wrote ([] ++ givenTo i calls shown)
+      from t t' s sound did z =
+          let f = did-sound D faithful sound did in
+          let put = opening-puts (length t) (ledgerOf t) i e (answered f did z) in
+          let g = subst (Follows (length t) t') (put .1) (did-follows D faithful f did) in
+          ends g i (omega (arith, put .0, length-set (ledgerOf t) i (entry (openedEntry e)))) e []
+          (getD-set-same (ledgerOf t) i (entry (openedEntry e)) nothing (put .0))
 
-pub code-opened-closed : OpenedCloses Did
-code-opened-closed = opened-closed Did code-faithful
+  pub loaded-writes : LoadedWrites D
+  loaded-writes i e m k all short = (
+    (
+      (λ x b out t t' s sound did z. from t t' s sound did z (closing i x b out) _ (closing-law i e x b out)),
+      (λ out t t' s sound did z. from t t' s sound did z (saving i out) _ (saving-law i e out)),
+    ),
+    never,
+  )
+    where
+      from : (t t' : List ℕ) (s : Seen) → SoundTable t → D t (loading i (recordOfMessage e m)) s t' → s .answer ≡ 0 →
+          (c : Call) (wrote : List ℕ → List ℕ) → Law i e c wrote →
+          (calls : List Call) (shown : List Seen) (u : List ℕ) → Trace D t' calls shown u → Stays i calls shown →
+          (z : Seen) (v : List ℕ) → D u c z v → z .answer ≡ 0 → z .output ≡ wrote (m ++ givenTo i calls shown)
+      from t t' s sound did z =
+          let f = did-sound D faithful sound did in
+          let put = loading-puts (length t) (ledgerOf t) i (recordOfMessage e m) (answered f did z) in
+          let g = subst (Follows (length t) t') (put .1) (did-follows D faithful f did) in
+          ends (follows-loaded f i (put .0) e m k all short g) i
+          (omega (arith, put .0, length-set (ledgerOf t) i (entry (with (openedEntry e) m)))) e m
+          (getD-set-same (ledgerOf t) i (entry (with (openedEntry e) m)) nothing (put .0))
 
-pub code-loaded-closed : LoadedCloses Did
-code-loaded-closed = loaded-closed Did code-faithful
+      never : (t t' : List ℕ) (s : Seen) → SoundTable t → D t (loading i (recordOfMessage e m)) s t' → s .answer ≡ 10 → ⊥
+      never t t' s sound did z =
+          let f = did-sound D faithful sound did in
+          not-ten (length t) (ledgerOf t) i (recordOfMessage e m) (message-loads e m k all short)
+          (ap (λ (y : Seen). y .answer) (sym (did-seen D faithful f did)) ∙ z)
+
+pub code-opened-writes : OpenedWrites Did
+code-opened-writes = opened-writes Did code-faithful
+
+pub code-loaded-writes : LoadedWrites Did
+code-loaded-writes = loaded-writes Did code-faithful

@@ -223,6 +223,10 @@ sound-follows t s words =
         go (no d) =
             subst FineSlot (sym (List·getD-eq-default (slotsOf t 0 n) nothing (omega (arith, size)))) tt
 
+-- and a table that follows is sound
+pub follows-sound : {L : ℕ} {t : List ℕ} {l : List Slot} → Follows L t l → SoundTable t
+follows-sound f = record { header = f .header; bays = λ i h. shown f i (omega (arith, f .count)) .isSound }
+
 -- ---- a layout: every bay is empty, so that the ledger has nothing
 
 empty-slot : slotOf emptyBay ≡ nothing

@@ -7,6 +7,7 @@ pub mod Ledger
 pub mod Alike
 pub mod CallersWords
 pub mod Traces
+pub mod Kept
 pub mod Ends
 pub mod Traced
 pub mod Client

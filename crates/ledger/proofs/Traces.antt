@@ -7,13 +7,13 @@ use mathlib.Core.Path.{_≡_, refl, sym, ap, ap₂, subst, _∙_}
 use lib.ListN.{length, replicate}
 use Rattle.answers.specs.Judged.{first, after, lent}
 use Rattle.bays.proofs.Frames.{below-bayAt}
-use Rattle.calls.specs.Calls.{Call, asking, Lends, tests, leaves, Told, nothingTold, tells, Outcome, Asks, Seen, Ran, run}
+use Rattle.calls.specs.Calls.{Call, layOut, asking, Lends, tests, leaves, Told, nothingTold, tells, Outcome, Asks, Seen, Ran, run}
 use Rattle.ledger.specs.Ledger.{Slot, nothing, keep}
 use Rattle.ledger.specs.Promise.{saidOf, slotsAfter, Undamaged}
 use Rattle.ledger.specs.Sound.{SoundTable, ledgerOf}
-use Rattle.ledger.specs.Traces.{Doing, shows, showsTold, Trace, none, then, FromSound, FromLayout}
+use Rattle.ledger.specs.Traces.{Doing, shows, showsTold, Trace, none, then, FromSound, FromLayout, StaySound, LaySound}
 use Rattle.ledger.specs.Code.{Did, lay-out-did, open-did, add-did, close-did, save-did, load-did, ask-did, drop-did}
-use Rattle.ledger.proofs.Follows.{Follows, sound-follows}
+use Rattle.ledger.proofs.Follows.{Follows, sound-follows, follows-sound}
 use Rattle.ledger.proofs.Ledger.{same-seen, still-follows, laid, said-undamaged}
 
 -- ---- what a contract says of a call is a step of `run`
@@ -104,11 +104,22 @@ module _ (D : Doing) (faithful : Faithful D) where
   from-sound t sound [] shown left (none u) = (refl, tt)
   from-sound t sound (c ∷ cs) shown left (then d more) = shown-follows (did-sound sound d) (then d more)
 
-  pub from-layout : FromLayout D
-  from-layout words t n s d ok calls shown left made =
+  pub stays-sound : StaySound D
+  stays-sound t sound [] shown left (none u) = sound
+  stays-sound t sound (c ∷ cs) shown left (then d more) = follows-sound (trace-follows (did-sound sound d) (then d more))
+
+  laid-made : (words t : List ℕ) (n : ℕ) (s : Seen) → D words (layOut n) s t → s .answer ≡ 0 →
+      Follows (length words) t (replicate n nothing)
+  laid-made words t n s d ok =
       let h = faithful _ _ _ _ d .ran in
-      let f = laid words n (ap (λ (x : Ran). x .seen .answer) h ∙ ok) in
-      shown-follows (subst (λ (x : Ran). Follows (length words) (x .table) (replicate n nothing)) h f) made
+      subst (λ (x : Ran). Follows (length words) (x .table) (replicate n nothing)) h
+      (laid words n (ap (λ (x : Ran). x .seen .answer) h ∙ ok))
+
+  pub lays-sound : LaySound D
+  lays-sound words t n s d ok = follows-sound (laid-made words t n s d ok)
+
+  pub from-layout : FromLayout D
+  from-layout words t n s d ok calls shown left made = shown-follows (laid-made words t n s d ok) made
 
 -- ---- the functions in src
 
@@ -131,3 +142,9 @@ code-ledger = from-layout Did code-faithful
 
 pub code-ledger-sound : FromSound Did
 code-ledger-sound = from-sound Did code-faithful
+
+pub code-stays-sound : StaySound Did
+code-stays-sound = stays-sound Did code-faithful
+
+pub code-lays-sound : LaySound Did
+code-lays-sound = lays-sound Did code-faithful

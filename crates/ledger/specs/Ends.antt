@@ -1,6 +1,6 @@
 -- A message from its beginning to its digest, among whatever else is called: SPEC, "The plain ledger". `givenTo` is what a bay was given,
--- and `Stays` says that no call that was done ended it. The theorems are `opened-closed` and `loaded-closed`, of the functions in src
--- `code-opened-closed` and `code-loaded-closed`.
+-- and `Stays` says that no call that was done ended it. The theorems are `opened-writes` and `loaded-writes`, of the functions in src
+-- `code-opened-writes` and `code-loaded-writes`; that calls reach sound tables only is `stays-sound`.
 use Prim.Native.Nat.{ℕ}
 use mathlib.Core.Bool.{Bool, true, false, cond}
 use mathlib.Core.List.{List, [], _∷_, _++_}
@@ -58,20 +58,26 @@ abbrev pub recordOfMessage : ℕ → List ℕ → List ℕ
 recordOfMessage e m = entryRecord (with (openedEntry e) m)
 
 module _ (Did : Doing) where
-  -- bay i was begun by the call c with m bytes of a message of edition e in it; after any calls that leave it there it was closed:
-  -- the output begins with the standard's digest of all that it was given
-  abbrev pub Closes : ℕ → List ℕ → ℕ → Call → Type 0
-  Closes e m i c =
+  -- bay i was begun by the call c, with m in it, on a table with a right header and sound bays; after any calls that leave it there, `last`
+  -- was done: the output is `wrote` of all that the bay was given
+  abbrev pub Ends : ℕ → List ℕ → Call → Call → (List ℕ → List ℕ) → Type 0
+  Ends i m c last wrote =
       (t t' : List ℕ) (s : Seen) → SoundTable t → Did t c s t' → s .answer ≡ 0 →
       (calls : List Call) (shown : List Seen) (u : List ℕ) → Trace Did t' calls shown u → Stays i calls shown →
-      (x b : ℕ) (out : List ℕ) (last : Seen) (v : List ℕ) → Did u (closing i x b out) last v → last .answer ≡ 0 →
-      last .output ≡ atFront (digest e (message (m ++ givenTo i calls shown) x b)) out
+      (z : Seen) (v : List ℕ) → Did u last z v → z .answer ≡ 0 → z .output ≡ wrote (m ++ givenTo i calls shown)
 
-  -- opened
-  abbrev pub OpenedCloses : Type 0
-  OpenedCloses = (i e : ℕ) → Closes e [] i (opening i e)
+  -- closed, it writes the standard's digest of that message; saved, the record of it
+  abbrev pub Writes : ℕ → ℕ → List ℕ → Call → Type 0
+  Writes i e m c =
+      ((x b : ℕ) (out : List ℕ) → Ends i m c (closing i x b out) (λ g. atFront (digest e (message g x b)) out))
+      × ((out : List ℕ) → Ends i m c (saving i out) (λ g. atFront (recordOfMessage e g) out))
 
-  -- loaded from the record of a message
-  abbrev pub LoadedCloses : Type 0
-  LoadedCloses =
-      (i e : ℕ) (m : List ℕ) → known e ≡ true → Bytes m → tooLong e 0 (length m) ≡ false → Closes e m i (loading i (recordOfMessage e m))
+  abbrev pub OpenedWrites : Type 0
+  OpenedWrites = (i e : ℕ) → Writes i e [] (opening i e)
+
+  -- the record of a message of bytes within the limit: loaded, the bay goes on from that message; and it is never refused as none, 10
+  abbrev pub LoadedWrites : Type 0
+  LoadedWrites =
+      (i e : ℕ) (m : List ℕ) → known e ≡ true → Bytes m → tooLong e 0 (length m) ≡ false →
+      Writes i e m (loading i (recordOfMessage e m))
+      × ((t t' : List ℕ) (s : Seen) → SoundTable t → Did t (loading i (recordOfMessage e m)) s t' → s .answer ≡ 10 → ⊥)

@@ -1,12 +1,13 @@
 -- Calls that were made, one after the other, each on the table that the one before left: `Trace`. What a call did is a relation `Did`,
 -- which for the functions in src is their own contract (`Code`), and so for the C names. SPEC, "The plain ledger".
-use Prim.Native.Nat.{ℕ}
+use Prim.Native.Nat.{ℕ, _≤_}
 use mathlib.Core.List.{List, [], _∷_}
 use mathlib.Core.Path.{_≡_}
-use lib.ListN.{length, replicate}
-use Rattle.calls.specs.Calls.{Call, layOut, Seen, Told, nothingTold}
+use lib.ListN.{length, drop, replicate}
+use Rattle.bays.specs.Places.{placeOf}
+use Rattle.calls.specs.Calls.{Call, layOut, outputOf, Seen, Told, nothingTold}
 use Rattle.ledger.specs.Ledger.{nothing}
-use Rattle.ledger.specs.Promise.{saidOf, Undamaged}
+use Rattle.ledger.specs.Promise.{saidOf, Undamaged, reach}
 use Rattle.ledger.specs.Sound.{SoundTable, ledgerOf}
 
 -- `Did t c s u`: lent the table t, the call c showed s and left u
@@ -38,3 +39,22 @@ module _ (Did : Doing) where
       (words t : List ℕ) (n : ℕ) (s : Seen) → Did words (layOut n) s t → s .answer ≡ 0 →
       (calls : List Call) (shown : List Seen) (left : List ℕ) → Trace Did t calls shown left →
       (shown ≡ saidOf (length words) (replicate n nothing) calls) × Undamaged shown
+
+  -- calls leave a sound table sound, and a layout that is done makes one
+  abbrev pub StaySound : Type 0
+  StaySound =
+      (t : List ℕ) → SoundTable t → (calls : List Call) (shown : List Seen) (left : List ℕ) → Trace Did t calls shown left → SoundTable left
+
+  abbrev pub LaySound : Type 0
+  LaySound = (words t : List ℕ) (n : ℕ) (s : Seen) → Did words (layOut n) s t → s .answer ≡ 0 → SoundTable t
+
+  -- on any table, a call that is refused leaves every word and every byte of its output, and tells nothing
+  abbrev pub RefusedKeeps : Type 0
+  RefusedKeeps =
+      (t : List ℕ) (c : Call) (s : Seen) (u : List ℕ) → Did t c s u → (s .answer ≡ 0 → ⊥) →
+      (u ≡ t) × (s .output ≡ outputOf c) × (s .says ≡ nothingTold)
+
+  -- on any table, no call touches a word past the bays that it reaches
+  abbrev pub CallersKept : Type 0
+  CallersKept =
+      (t : List ℕ) (c : Call) (s : Seen) (u : List ℕ) → Did t c s u → (n : ℕ) → reach t c ≤ n → drop (placeOf n) u ≡ drop (placeOf n) t

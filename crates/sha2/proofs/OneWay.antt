@@ -1,7 +1,7 @@
 -- Every message of bits within the limit is passed in exactly one way that is refused neither with 7 nor with 8: `one-way`.
 -- What is not refused so is a message within the limit: `message-within`. Of hash at once: `passed-hashed` and `taken-passes`; of the
 -- function itself, by its own contract: `message-hashed` and `taken-within`.
-use Prim.Native.Nat.{ℕ, _/_, _≤_, _<_}
+use Prim.Native.Nat.{ℕ, _+_, _*_, _/_, _≤_, _<_}
 use mathlib.Core.Bool.{Bool, true, false, not, cond}
 use mathlib.Core.List.{List}
 use mathlib.Core.Path.{_≡_, refl, sym, ap, _∙_}
@@ -21,7 +21,8 @@ use Rattle.slices.specs.AtFront.{atFront}
 use Rattle.slices.specs.Below.{Bytes}
 use Rattle.sha2.specs.Closing.{closingFits}
 use Rattle.sha2.specs.Hash.{Hashes, hashTests, hashed}
-use Rattle.sha2.specs.Limit.{tooLong}
+use Rattle.sha2.specs.Limit.{limit, tooLong}
+use Rattle.sha2.proofs.Limits.{within-limit, limit-within}
 use Rattle.sha2.specs.Passing.{Way, meant, Within, Passes}
 use Rattle.sha2.proofs.AtOnce.{closing-few, closing-zeros, closing-fits}
 use Rattle.sha2.proofs.hash.hash as hash
@@ -30,6 +31,11 @@ use Rattle.sha2.proofs.hash.hash.Reads as hash-reads
 -- the way that the message itself tells
 abbrev pub wayOf : List Bool → Way
 wayOf m = record { bytes = bytesIn m; closing = closingIn m; bits = bitsBehind m }
+
+-- within the limit: at most so many whole bytes, and seven bits
+pub within-bits : (e : ℕ) (m : List Bool) → (Within e m → length m ≤ 8 * limit + 7) × (length m ≤ 8 * limit + 7 → Within e m)
+within-bits e m =
+    (λ h. omega (arith, limit-within e 0 (length m / 8) h), λ h. within-limit e 0 (length m / 8) (omega arith))
 
 -- what is refused neither with 7 nor with 8 is a message within the limit
 pub message-within : (e : ℕ) (w : Way) → tooLong e 0 (length (w .bytes)) ≡ false → closingFits (w .closing) (w .bits) ≡ true →

@@ -5,3 +5,4 @@ pub mod Levels
 pub mod InPlace
 pub mod Root
 pub mod Settled
+pub mod Refused
