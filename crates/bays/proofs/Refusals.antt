@@ -1,4 +1,4 @@
--- An empty bay is sound, so that 6 excludes 4 and 3: `vacant-refused` and `held-judged`, `first-free` and `first-taken`.
+-- An empty bay is sound, so that 6 excludes 4 and 3: `vacant-alone` and `held-judged`, `first-free` and `first-taken`.
 use Prim.Native.Nat.{ℕ, _<_}
 use mathlib.Core.Bool.{true, false, not, Bool, cond}
 use native.Mathlib.Omega.{arith}

@@ -1,6 +1,6 @@
--- A message from its beginning to its digest or its record, among any other calls: `opened-writes`, `loaded-writes`, and of the functions in
--- src `code-opened-writes`, `code-loaded-writes`. In the ledger a bay keeps its entry, with what it is given, until a call that is done ends
--- it.
+-- A message from its beginning to its digest or its record, among any other calls: `opened-writes`, `loaded-writes`, and of the functions
+-- in src `code-opened-writes`, `code-loaded-writes`. In the ledger a bay keeps its entry, with what it is given, until a call that is done
+-- ends it.
 use Prim.Native.Nat.{ℕ, zero, suc, _<_}
 use mathlib.Core.Bool.{Bool, true, false, cond, false≢true}
 use mathlib.Core.List.{List, [], _∷_, _++_, append-assoc, append-nil}

@@ -1,6 +1,6 @@
 -- What calls that were made do not change, on any table: a refused one anything, `refused-keeps`, and none a word past the bays that it
 -- reaches, `callers-kept`. Of the functions in src: `code-refused-keeps`, `code-callers-kept`.
-use Prim.Native.Nat.{ℕ, zero, suc, _≤_}
+use Prim.Native.Nat.{ℕ, zero, suc}
 use mathlib.Core.List.{List}
 use mathlib.Core.Path.{_≡_, refl, sym, ap, subst, _∙_}
 use lib.ListN.{drop}
