@@ -10,15 +10,15 @@
 #include <stdlib.h>
 #include <string.h>
 
-#include "dwombarine.h"
+#include <dwombarine.h>
 
-enum { SHA256 = 2, DIGEST = 32, PIECE = 4096, BAY = 0, WORDS = DW_TABLE_WORDS(1) };
+enum { DIGEST = DW_DIGEST_BYTES(DW_SHA256), PIECE = 4096, BAY = 0, WORDS = DW_TABLE_WORDS(1) };
 
-/* Ends the program if the call was refused. The numbers are told in dwombarine.h. */
+/* Ends the program if the call was refused. */
 static void check(const char *call, uint64_t number)
 {
-    if (number != 0) {
-        fprintf(stderr, "half_read: %s was refused with number %" PRIu64 "\n", call, number);
+    if (number != DW_DONE) {
+        fprintf(stderr, "half_read: %s was refused with number %" PRIu64 ": %s\n", call, number, dw_answer_text(number));
         exit(1);
     }
 }
@@ -47,9 +47,10 @@ static void add_from(FILE *file, const char *name, uint64_t *table, uint64_t mos
     }
 }
 
-/* Reads half of the file and leaves the record of that. */
-static void first_half(const char *name, uint64_t *table, uint8_t *record, size_t room)
+/* Reads half of the file and leaves the record of that; answers the record's length. */
+static size_t first_half(const char *name, uint64_t *table, uint8_t *record, size_t room)
 {
+    uint64_t edition, count;
     FILE *file = fopen(name, "rb");
     check_system(name, file != NULL);
     check_system(name, fseek(file, 0, SEEK_END) == 0);
@@ -58,17 +59,18 @@ static void first_half(const char *name, uint64_t *table, uint8_t *record, size_
     rewind(file);
 
     check("lay out", dw_lay_out(table, WORDS, 1));
-    check("open", dw_open(table, WORDS, BAY, SHA256));
+    check("open", dw_open(table, WORDS, BAY, DW_SHA256));
     /* an odd count ends inside a block, so the record also holds the beginning of that block */
     add_from(file, name, table, (uint64_t)size / 2 | 1);
+    check("ask", dw_ask(table, WORDS, BAY, &edition, &count));
     check("save", dw_save(table, WORDS, BAY, record, room));
     fclose(file);
+    return (size_t)DW_RECORD_BYTES(edition, count);
 }
 
 /* Goes on from the record to the end of the file and leaves the digest. */
-static void second_half(const char *name, uint64_t *table, const uint8_t *record, uint8_t *digest)
+static void second_half(const char *name, uint64_t *table, const uint8_t *record, size_t length, uint8_t *digest)
 {
-    size_t length = (size_t)record[18] << 8 | record[19];
     uint64_t edition, count;
     check("lay out", dw_lay_out(table, WORDS, 1));
     check("load", dw_load(table, WORDS, BAY, record, length));
@@ -86,14 +88,15 @@ int main(int argc, char **argv)
 {
     uint64_t table[WORDS];
     uint8_t record[DW_LONGEST_RECORD], digest[DIGEST];
+    size_t length; /* of the record */
 
     if (argc != 2) {
         fprintf(stderr, "usage: half_read FILE\n");
         return 1;
     }
-    first_half(argv[1], table, record, sizeof record);
+    length = first_half(argv[1], table, record, sizeof record);
     memset(table, 0xa5, sizeof table); /* the restart: the table's memory now holds anything */
-    second_half(argv[1], table, record, digest);
+    second_half(argv[1], table, record, length, digest);
 
     for (size_t i = 0; i < DIGEST; i++)
         printf("%02x", digest[i]);

@@ -6,6 +6,7 @@
 
 /// The table of bays of include/dwombarine.h as a type of Rust. Whatever is passed, a call is done or refused: no method can be misused.
 mod dwombarine {
+    use std::ffi::{c_char, CStr};
     use std::fmt;
 
     extern "C" {
@@ -16,6 +17,7 @@ mod dwombarine {
         fn dw_save(table: *const u64, words: usize, bay: u64, out: *mut u8, out_n: usize) -> u64;
         fn dw_load(table: *mut u64, words: usize, bay: u64, record: *const u8, n: usize) -> u64;
         fn dw_ask(table: *const u64, words: usize, bay: u64, edition: *mut u64, count: *mut u64) -> u64;
+        fn dw_answer_text(number: u64) -> *const c_char;
     }
 
     pub const SHA256: u64 = 2;
@@ -32,23 +34,8 @@ mod dwombarine {
 
     impl fmt::Display for Refused {
         fn fmt(&self, f: &mut fmt::Formatter) -> fmt::Result {
-            let meaning = match self.0 {
-                1 => "not a table",
-                2 => "no such bay",
-                3 => "bay taken",
-                4 => "bay empty",
-                5 => "no such edition",
-                6 => "bay not sound",
-                7 => "would pass a length limit",
-                8 => "more than 7 closing bits, or a set bit below them",
-                9 => "output too short",
-                10 => "not a record",
-                11 => "not 1 to 64 bays, or too few words",
-                12 => "not a digest list",
-                13 => "name not listed",
-                14 => "digest differs",
-                _ => "no such number",
-            };
+            // the text is constant, plain ASCII, and never null
+            let meaning = unsafe { CStr::from_ptr(dw_answer_text(self.0)) }.to_string_lossy();
             write!(f, "refused with number {}: {meaning}", self.0)
         }
     }

@@ -1,30 +1,50 @@
 /* Dwombarine: SHA-2 at once, half-read messages in a table of bays, chunk trees and digest lists.
  *
- * Every call takes any numbers and any bytes, under the rules for pointers below, ends, and answers a number. Where several apply it is the
- * first in the order that stands beside the call:
+ * A message in pieces, saved halfway and finished from its record in another bay, as after a restart, or on another machine. Each call here
+ * answers DW_DONE; a program asks whether it did.
  *
- *    0 done                      5 no such edition                         10 not a record
- *    1 not a table               6 bay not sound                           11 not 1 to 64 bays, or too few words
- *    2 no such bay               7 would pass a length limit               12 not a digest list
- *    3 bay taken                 8 more than 7 closing bits, or a set      13 name not listed
- *    4 bay empty                   bit below them                          14 digest differs
- *                                9 output too short
+ *    uint64_t table[DW_TABLE_WORDS(2)], edition, count;
+ *    uint8_t record[DW_LONGEST_RECORD], digest[DW_DIGEST_BYTES(DW_SHA256)];
+ *    dw_lay_out(table, DW_TABLE_WORDS(2), 2);                                           // two bays, over memory that held anything
+ *    dw_open(table, DW_TABLE_WORDS(2), 0, DW_SHA256);
+ *    dw_add(table, DW_TABLE_WORDS(2), 0, (const uint8_t *)"carrier 4, ", 11);
+ *    dw_ask(table, DW_TABLE_WORDS(2), 0, &edition, &count);                             // SHA-256, of which 11 bytes are taken
+ *    dw_save(table, DW_TABLE_WORDS(2), 0, record, sizeof record);                       // the record is shorter than its room
+ *    dw_load(table, DW_TABLE_WORDS(2), 1, record, DW_RECORD_BYTES(edition, count));
+ *    dw_add(table, DW_TABLE_WORDS(2), 1, (const uint8_t *)"row 12", 6);
+ *    dw_close(table, DW_TABLE_WORDS(2), 1, 0, 0, digest, sizeof digest);                // the digest of "carrier 4, row 12"
  *
- * Editions: 1 SHA-224, 2 SHA-256, 3 SHA-384, 4 SHA-512, 5 SHA-512/224, 6 SHA-512/256, with digests of 28, 32, 48, 64, 28 and 32 bytes.
+ * Compile and link with what `pkg-config --cflags --libs dwombarine` prints.
+ *
+ * Answers: every call takes any numbers and any bytes, under the rules for pointers below, ends, and answers a number of enum dw_answer.
+ * Where several apply it is the first in the order that stands beside the call.
  *
  * Memory: the caller owns all of it and lends it for the length of the call. Nothing is allocated, and no pointer is kept. A pointer comes
- * with its count of elements and is not null, not even where the count is 0; what a call writes overlaps nothing else that is lent to it.
- * A refused call (not 0) writes nothing to a table or an output; ask and lookup then set their two values to 0.
- * Digests, records and roots are written at the front of the output, and the bytes behind them stay as they were.
- * A table is aligned as uint64_t is, and so are the two values; bytes need no alignment.
+ * with its count of elements. NO POINTER MAY BE NULL, NOT EVEN THAT OF AN EMPTY BUFFER: where the count is 0 pass the address of anything,
+ * such as "". What a call writes overlaps nothing else that is lent to it. A refused call (not 0) writes nothing to a table or an output;
+ * ask and lookup then set their two values to 0. Digests, records and roots are written at the front of the output, and the bytes behind
+ * them stay as they were. A table is aligned as uint64_t is, and so are the two values; bytes need no alignment.
+ *
+ * Stack: dw_tree takes up to 36,768 bytes of it, dw_close 2,896, dw_hash 2,512, dw_add 2,432, dw_load 1,992, dw_open 1,288, dw_save 1,280,
+ * dw_drop 1,240, dw_ask 1,128, dw_judge 240, dw_lookup 224 and dw_lay_out 32: measured on x86-64 and on Arm, the larger of both. A thread
+ * with a small stack has to have as much to spare; two macros below have it in round numbers.
  *
  * Threads: nothing is kept between calls but what stands in a table. Calls on different tables, and calls on none, may run at once, each
  * with outputs of its own; on one table only dw_ask and dw_save may run beside each other.
  *
+ * C++: include this as it is; the names are extern "C", and nothing throws. Answers are uint64_t and compare with the names of the enums as
+ * they are; to make an enum of one takes a cast. An edition of the enum is passed as it is. data() of an empty std::vector, std::span or
+ * std::string_view may be null: pass the address of something else then.
+ *
  * Machines: a record means the same on every machine. A table belongs to the machine it was made on: its words are in that machine's own
  * byte order. size_t must have 64 bits, which is checked below.
  *
+ * Versions: until 1.0 the second number of DW_VERSION grows whenever a signature, a number or a size of this header changes, and the name
+ * by which the shared library is loaded with it. So a program that was compiled with another header does not start with it.
+ *
  * Linking: the library needs memcpy and memset of the C library, and nothing else.
+ *
+ * Proved: the twelve calls, down to every byte that they write. Not proved, but tested: this header and dw_answer_text, which are C.
  */
 #ifndef DWOMBARINE_H
 #define DWOMBARINE_H
@@ -36,50 +56,103 @@
 extern "C" {
 #endif
 
+#define DW_VERSION "0.1.0"
+
 /* the library takes every count as 64 bits: where size_t has not so many, this does not compile */
 typedef char dw_size_t_has_64_bits[sizeof(size_t) == 8 ? 1 : -1];
 
-/* words of a table of n bays, n from 1 to 64; words behind them are the caller's and never change */
+/* What a call answers. */
+enum dw_answer {
+    DW_DONE = 0,
+    DW_BAD_TABLE = 1,       /* not a table */
+    DW_NO_SUCH_BAY = 2,     /* the table has not so many bays */
+    DW_BAY_TAKEN = 3,       /* a message is in the bay */
+    DW_BAY_EMPTY = 4,       /* none is */
+    DW_NO_SUCH_EDITION = 5, /* not one of the six below */
+    DW_NOT_SOUND = 6,       /* the bay's words are damaged: dw_drop empties it */
+    DW_TOO_LONG = 7,        /* would pass a length limit */
+    DW_BAD_CLOSING = 8,     /* more than 7 closing bits, or a set bit below them */
+    DW_SHORT_OUTPUT = 9,    /* the result does not fit */
+    DW_BAD_RECORD = 10,     /* not a record */
+    DW_BAD_LAYOUT = 11,     /* not 1 to 64 bays, or too few words for them */
+    DW_NOT_A_LIST = 12,     /* not a digest list */
+    DW_NOT_LISTED = 13,     /* the list has no such name */
+    DW_DIGEST_DIFFERS = 14  /* the list has another digest for the name */
+};
+
+/* The editions of SHA-2. */
+enum dw_edition {
+    DW_SHA224 = 1,
+    DW_SHA256 = 2,
+    DW_SHA384 = 3,
+    DW_SHA512 = 4,
+    DW_SHA512_224 = 5,
+    DW_SHA512_256 = 6
+};
+
+/* Sizes. Each is a constant where its arguments are; an argument may be evaluated more than once. */
+
+/* bytes of an edition's digest, 0 where the number names none */
+#define DW_DIGEST_BYTES(edition) \
+    ((edition) == 1 || (edition) == 5 ? 28 : (edition) == 2 || (edition) == 6 ? 32 : (edition) == 3 ? 48 : (edition) == 4 ? 64 : 0)
+/* words, and bytes, of a table of n bays, n from 1 to 64; words behind them are the caller's and never change */
 #define DW_TABLE_WORDS(n) (4 + 26 * (n))
-/* the longest digest and the longest record */
+#define DW_TABLE_BYTES(n) (8 * DW_TABLE_WORDS(n))
+/* bytes of a bay's record, over the edition and the count that dw_ask tells; 0 where it tells of an empty bay, which has none */
+#define DW_RECORD_BYTES(edition, count) \
+    ((edition) == 1 || (edition) == 2 ? 56 + (count) % 64 : (edition) >= 3 && (edition) <= 6 ? 88 + (count) % 128 : 0)
+/* the longest digest, the longest record, the root of a tree, and the longest map that a tree is made of */
 #define DW_LONGEST_DIGEST 64
 #define DW_LONGEST_RECORD 215
+#define DW_ROOT_BYTES 32
+#define DW_LONGEST_MAP 1048576
+/* bytes of stack that dw_tree takes at most, and that each other call does */
+#define DW_TREE_STACK 37000
+#define DW_STACK 3000
 
-/* The digest of n bytes, at most 2^40, and of the upper `bits` bits (0 to 7) of `closing`, whose other bits are 0. 5, 7, 8, 9. */
+/* For a whole message at hand: the digest of n bytes, at most 2^40, and of the upper `bits` bits (0 to 7) of `closing`, whose other bits
+ * are 0. A message of whole bytes has 0 and 0 there. 5, 7, 8, 9. */
 uint64_t dw_hash(uint64_t edition, const uint8_t *message, size_t n, uint8_t closing, uint64_t bits, uint8_t *out, size_t out_n);
 
-/* Makes a table of that many empty bays, over memory that held anything. 11. */
+/* To begin with: makes a table of that many empty bays, over memory that held anything. 11. */
 uint64_t dw_lay_out(uint64_t *table, size_t words, uint64_t bays);
 
-/* Begins a message in an empty bay, counted from 0. 1, 2, 5, 6, 3. */
+/* To begin a message, in an empty bay; bays are counted from 0. 1, 2, 5, 6, 3. */
 uint64_t dw_open(uint64_t *table, size_t words, uint64_t bay, uint64_t edition);
 
-/* Takes n bytes more, up to 2^40 in all. 1, 2, 6, 4, 7. */
+/* For each piece of the message, of any length, 2^40 bytes in all: takes n bytes more. 1, 2, 6, 4, 7. */
 uint64_t dw_add(uint64_t *table, size_t words, uint64_t bay, const uint8_t *piece, size_t n);
 
-/* Writes the digest of all bytes taken and the closing bits, and empties the bay. 1, 2, 6, 4, 8, 9. */
+/* To end it: writes the digest of all bytes taken and of the closing bits, as for dw_hash, and empties the bay. 1, 2, 6, 4, 8, 9. */
 uint64_t dw_close(uint64_t *table, size_t words, uint64_t bay, uint8_t closing, uint64_t bits, uint8_t *out, size_t out_n);
 
-/* Writes the bay's record, which is as long as its bytes 18 and 19 say, most significant first; the bay stays as it is. 1, 2, 6, 4, 9. */
+/* To go on after a restart, or elsewhere: writes the bay's record, of DW_RECORD_BYTES bytes, which is also what its bytes 18 and 19 say,
+ * most significant first; the bay stays as it is. 1, 2, 6, 4, 9. */
 uint64_t dw_save(const uint64_t *table, size_t words, uint64_t bay, uint8_t *out, size_t out_n);
 
-/* Puts what was saved into an empty bay; n is exactly the record's length. 1, 2, 10, 6, 3. */
+/* To go on from a record: puts what was saved into an empty bay; n is exactly the record's length. 1, 2, 10, 6, 3. */
 uint64_t dw_load(uint64_t *table, size_t words, uint64_t bay, const uint8_t *record, size_t n);
 
-/* Tells the bay's edition and the bytes taken, both 0 for an empty bay. 1, 2, 6. */
+/* To know how far a message is, as after a load: tells the bay's edition and the bytes taken, both 0 for an empty bay. 1, 2, 6. */
 uint64_t dw_ask(const uint64_t *table, size_t words, uint64_t bay, uint64_t *edition, uint64_t *count);
 
-/* Empties a bay that has a word other than 0, a damaged one too. 1, 2, 4. */
+/* To give a message up: empties a bay that has a word other than 0, a damaged one too. 1, 2, 4. */
 uint64_t dw_drop(uint64_t *table, size_t words, uint64_t bay);
 
-/* Writes the 32-byte root of the chunk tree of n bytes, at most 1,048,576. 7, 9. */
+/* For one digest over the chunks of a map: writes the 32-byte root of the chunk tree of n bytes, at most 1,048,576. 7, 9. */
 uint64_t dw_tree(const uint8_t *map, size_t n, uint8_t *out, size_t out_n);
 
-/* Is this the digest that the list has for the name? 12, 13, 14. */
+/* To hold a digest against a list: is it the one that the list has for the name? Each call reads the whole list again, to know that it is
+ * one. 12, 13, 14. */
 uint64_t dw_judge(const uint8_t *list, size_t n, const uint8_t *name, size_t name_n, const uint8_t *digest, size_t digest_n);
 
-/* Tells where in the list the name's digest lies and how long it is, both 0 where there is none. 12, 13. */
+/* To get a listed digest: tells where in the list it lies and how long it is, both 0 where there is none. Each call reads the whole list
+ * again. 12, 13. */
 uint64_t dw_lookup(const uint8_t *list, size_t n, const uint8_t *name, size_t name_n, size_t *at, size_t *len);
+
+/* For a message to a person: what an answer means in words, such as "bay taken"; "no such answer" for every other number. The text is
+ * constant and never null. This one is a small function in C beside the library, and nothing is proved of it. */
+const char *dw_answer_text(uint64_t number);
 
 #ifdef __cplusplus
 }

@@ -1,0 +1,194 @@
+/* How much stack each call takes: it is made on a stack that was painted, and what is no longer painted was used. Writes a line for each
+ * call, the most that any of its uses took: name, a blank, bytes. A call is also made once before, so that no loader's work is counted.
+ * The kit has no C headers: what is called of the C library is declared here. */
+#include "dwombarine.h"
+
+int printf(const char *form, ...);
+void *memset(void *to, int byte, size_t n);
+_Noreturn void _exit(int status);
+
+enum { STACK = 1 << 16, PAINT = 0xa5, BAYS = 64, WORDS = DW_TABLE_WORDS(BAYS), MAP = DW_LONGEST_MAP, LIST = 34832 };
+
+static _Alignas(16) uint8_t stack[STACK];
+static uint64_t table[WORDS], edition, count, sound;
+static uint8_t map[MAP + 1], list[LIST], record[DW_LONGEST_RECORD], out[256];
+static size_t list_n, at, len, n;
+static uint64_t number;
+
+/* Calls the function with the stack pointer at the end of the painted stack. */
+static void on_stack(void (*use)(void))
+{
+    uint8_t *top = stack + STACK;
+#if defined __x86_64__
+    __asm__ volatile("movq %%rsp, %%rbx\n\tmovq %0, %%rsp\n\tcall *%1\n\tmovq %%rbx, %%rsp"
+                     : "+r"(top), "+r"(use)
+                     :
+                     : "rax", "rbx", "rcx", "rdx", "r8", "r9", "r10", "r11", "xmm0", "xmm1", "xmm2", "xmm3", "xmm4", "xmm5", "xmm6",
+                       "xmm7", "xmm8", "xmm9", "xmm10", "xmm11", "xmm12", "xmm13", "xmm14", "xmm15", "cc", "memory");
+#elif defined __aarch64__
+    __asm__ volatile("mov x19, sp\n\tmov sp, %0\n\tblr %1\n\tmov sp, x19"
+                     : "+r"(top), "+r"(use)
+                     :
+                     : "x0", "x1", "x2", "x3", "x4", "x5", "x6", "x7", "x8", "x9", "x10", "x11", "x12", "x13", "x14", "x15", "x16", "x17",
+                       "x18", "x19", "x30", "v0", "v1", "v2", "v3", "v4", "v5", "v6", "v7", "v8", "v9", "v10", "v11", "v12", "v13", "v14", "v15",
+                       "v16", "v17", "v18", "v19", "v20", "v21", "v22", "v23", "v24", "v25", "v26", "v27", "v28", "v29", "v30", "v31",
+                       "cc", "memory");
+#else
+#error "the stack of this machine is not known here"
+#endif
+}
+
+/* The bytes of stack that the use takes: twice made, the second time on fresh paint. */
+static size_t taken(void (*prepare)(void), void (*use)(void))
+{
+    size_t free = 0;
+    for (int turn = 0; turn < 2; turn++) {
+        prepare();
+        memset(stack, PAINT, STACK);
+        on_stack(use);
+    }
+    while (free < STACK && stack[free] == PAINT)
+        free++;
+    if (free == 0)
+        _exit(2); /* it took more than there is */
+    return STACK - free;
+}
+
+/* The values of a use, which prepare sets up and the calls read. */
+static uint64_t u_edition, u_bits, u_bay;
+static uint8_t u_closing;
+static size_t u_n, u_out;
+
+static void fill(void)
+{
+    for (size_t i = 0; i < MAP + 1; i++)
+        map[i] = (uint8_t)(i * 7 + i / 251);
+}
+
+static void empty_table(void) { sound |= dw_lay_out(table, WORDS, BAYS); }
+static void open_table(void)
+{
+    empty_table();
+    sound |= dw_open(table, WORDS, BAYS - 1, u_edition);
+}
+static void half_table(void)
+{
+    open_table();
+    sound |= dw_add(table, WORDS, BAYS - 1, map, n);
+}
+static void saved(void)
+{
+    half_table();
+    sound |= dw_ask(table, WORDS, BAYS - 1, &edition, &count);
+    sound |= dw_save(table, WORDS, BAYS - 1, record, sizeof record);
+    empty_table();
+}
+static void nothing(void) {}
+
+static void no_call(void) {}
+static void use_hash(void) { number = dw_hash(u_edition, map, u_n, u_closing, u_bits, out, u_out); }
+static void use_lay_out(void) { number = dw_lay_out(table, WORDS, BAYS); }
+static void use_open(void) { number = dw_open(table, WORDS, u_bay, u_edition); }
+static void use_add(void) { number = dw_add(table, WORDS, u_bay, map, u_n); }
+static void use_close(void) { number = dw_close(table, WORDS, u_bay, u_closing, u_bits, out, u_out); }
+static void use_save(void) { number = dw_save(table, WORDS, u_bay, out, u_out); }
+static void use_load(void) { number = dw_load(table, WORDS, u_bay, record, DW_RECORD_BYTES(edition, count)); }
+static void use_ask(void) { number = dw_ask(table, WORDS, u_bay, &edition, &count); }
+static void use_drop(void) { number = dw_drop(table, WORDS, u_bay); }
+static void use_tree(void) { number = dw_tree(map, u_n, out, u_out); }
+static void use_judge(void) { number = dw_judge(list, list_n, list + list_n - 3, 3, list + 24, u_n); }
+static void use_lookup(void) { number = dw_lookup(list, list_n, list + list_n - 3, 3, &at, &len); }
+
+/* A number of so many bytes, most significant first. */
+static uint8_t *put(uint8_t *to, int bytes, size_t value)
+{
+    for (int i = bytes - 1; i >= 0; i--, value >>= 8)
+        to[i] = (uint8_t)value;
+    return to + bytes;
+}
+
+/* A digest list of 256 names of three digits. */
+static void make_list(void)
+{
+    enum { NAMES = 256, NAME = 3 };
+    size_t digest = DW_DIGEST_BYTES(u_edition), names = 16 + NAMES * (8 + digest);
+    uint8_t *to = put(put(put(put(put(list, 2, u_edition), 2, NAMES), 4, 16), 4, names), 4, names + NAMES * NAME);
+    for (size_t i = 0; i < NAMES; i++) {
+        to = put(put(to, 4, names + NAME * i), 4, NAME);
+        memset(to, (int)i, digest);
+        to += digest;
+    }
+    for (size_t i = 0; i < NAMES; i++) {
+        *to++ = (uint8_t)('0' + i / 100);
+        *to++ = (uint8_t)('0' + i / 10 % 10);
+        *to++ = (uint8_t)('0' + i % 10);
+    }
+    list_n = (size_t)(to - list);
+}
+
+enum { HASH, LAY_OUT, OPEN, ADD, CLOSE, SAVE, LOAD, ASK, DROP, TREE, JUDGE, LOOKUP, CALLS };
+static const char *const names[CALLS] = {"hash", "lay_out", "open", "add", "close", "save", "load", "ask", "drop", "tree", "judge", "lookup"};
+static size_t most[CALLS];
+static uint64_t done[CALLS], refused[CALLS];
+
+/* Takes the measure of a use and keeps the most. */
+static void measure(int call, void (*prepare)(void), void (*use)(void))
+{
+    size_t now = taken(prepare, use);
+    if (most[call] < now)
+        most[call] = now;
+    if (number == DW_DONE)
+        done[call]++;
+    else
+        refused[call]++;
+}
+
+int main(void)
+{
+    static const size_t sizes[] = {0, 1, 63, 64, 119, 127, 128, 1000, 4096};
+    size_t own;
+
+    fill();
+    own = taken(nothing, no_call);
+    for (u_edition = 1; u_edition <= 7; u_edition++)
+        for (size_t i = 0; i < sizeof sizes / sizeof *sizes; i++)
+            for (int wrong = 0; wrong < 3; wrong++) {
+                u_n = sizes[i];
+                u_bits = wrong == 1 ? 8 : i % 8;
+                u_closing = 0;
+                u_bay = wrong == 2 ? BAYS : BAYS - 1;
+                u_out = wrong == 2 ? 5 : sizeof out;
+                measure(HASH, nothing, use_hash);
+                measure(OPEN, empty_table, use_open);
+                if (u_edition > 6)
+                    continue;
+                for (size_t k = 0; k < sizeof sizes / sizeof *sizes; k += 2) {
+                    n = sizes[k];
+                    measure(ADD, half_table, use_add);
+                    measure(CLOSE, half_table, use_close);
+                    measure(SAVE, half_table, use_save);
+                    measure(LOAD, saved, use_load);
+                    measure(ASK, half_table, use_ask);
+                    measure(DROP, half_table, use_drop);
+                }
+                make_list();
+                list[14] ^= (uint8_t)(wrong == 2);
+                u_n = wrong == 1 ? 5 : (size_t)DW_DIGEST_BYTES(u_edition);
+                memset(list + 24, 255, u_n);
+                measure(JUDGE, nothing, use_judge);
+                measure(LOOKUP, nothing, use_lookup);
+            }
+    measure(LAY_OUT, nothing, use_lay_out);
+    for (u_n = 0; u_n <= MAP + 1; u_n = u_n < 4 ? u_n + 1 : u_n < MAP ? u_n * 2 : u_n + 1)
+        for (u_out = 31; u_out <= 32; u_out++)
+            measure(TREE, nothing, use_tree);
+
+    for (int call = 0; call < CALLS; call++) {
+        if (done[call] == 0 || (refused[call] == 0 && call != LAY_OUT)) {
+            printf("dw_%s was not done and refused, each once at least\n", names[call]);
+            return 1;
+        }
+        printf("dw_%s %zu\n", names[call], most[call] - own);
+    }
+    return sound == 0 ? 0 : 1;
+}
