@@ -162,7 +162,7 @@ int main(void)
                 measure(OPEN, empty_table, use_open);
                 if (u_edition > 6)
                     continue;
-                for (size_t k = 0; k < sizeof sizes / sizeof *sizes; k += 2) {
+                for (size_t k = 0; k < sizeof sizes / sizeof *sizes; k += 4) {
                     n = sizes[k];
                     measure(ADD, half_table, use_add);
                     measure(CLOSE, half_table, use_close);

@@ -1,0 +1,49 @@
+"""said.py OUTPUT: what the program outside wrote, against docs/SPEC.md, crates/answers and the file VERSION. Each fault is a line; the exit
+status is 1 where there is one."""
+import hashlib
+import re
+import sys
+from pathlib import Path
+
+root = Path(__file__).resolve().parents[2]
+spec = (root / "docs/SPEC.md").read_text(encoding="utf-8")
+
+
+def rows(heading, first):
+    """The rows of the table under a heading whose first row begins so."""
+    part = spec[spec.index(f"\n{heading}\n") :]
+    lines = part[part.index(f"\n| {first}") + 1 :].splitlines()
+    table = []
+    for line in lines[2:]:
+        if not line.startswith("|"):
+            return table
+        table.append([cell.strip() for cell in line.strip("|").split("|")])
+    return table
+
+
+def camel(name):
+    return re.sub(r"(?<=[a-z])(?=[A-Z])|(?<=A)(?=List)", "_", name).upper()
+
+
+expected = [f"version {(root / 'VERSION').read_text().strip()}"]
+texts = {int(row[0]): row[1] for row in rows("## Calls and their numbers", "no. |")}
+assert sorted(texts) == list(range(15))
+expected += [f"answer {n} {texts.get(n, 'no such answer')}" for n in range(17)] + ["answer 2^64-1 no such answer"]
+answers = (root / "crates/answers/src/lib.rt").read_text(encoding="utf-8")
+expected += [f"name DW_{camel(name)} {n}" for name, n in re.findall(r"Answer::(\w+) => (\d+),", answers)]
+editions = rows("## Editions", "no. |")
+expected += [f"name DW_{re.sub('-', '', row[1]).replace('/', '_')} {row[0]}" for row in editions]
+sizes = {int(row[0]): int(row[4]) for row in editions}
+expected += [f"edition {n} {sizes.get(n, 0)}" for n in range(8)]
+words = next(row[1] for row in rows("## Limits", "what |") if row[0].startswith("words of a table"))
+expected += ["table {} {}".format(*(n.replace(",", "") for n in re.search(r"([\d,]+) for one bay, ([\d,]+) for 64", words).groups()))]
+record = next(row[2] for row in rows("## Limits", "what |") if row[0].startswith("bytes of a record"))
+expected += [f"longest {max(sizes.values())} " + max(re.findall(r"\d+(?= \()", record), key=int)]
+expected += ["digest " + hashlib.sha512(b"m" * 300).hexdigest()]
+
+said = Path(sys.argv[1]).read_text().splitlines()
+faults = [f"not said: {line}" for line in expected if line not in said] + [f"said: {line}" for line in said if line not in expected]
+if not faults and said != expected:
+    faults = ["said in another order"]
+print("\n".join(faults), end="\n" if faults else "")
+sys.exit(1 if faults else 0)
