@@ -20,10 +20,11 @@
  * Where several apply it is the first in the order that stands beside the call.
  *
  * Memory: the caller owns all of it and lends it for the length of the call. Nothing is allocated, and no pointer is kept. A pointer comes
- * with its count of elements. NO POINTER MAY BE NULL, NOT EVEN THAT OF AN EMPTY BUFFER: where the count is 0 pass the address of anything,
- * such as "". What a call writes overlaps nothing else that is lent to it. A refused call (not 0) writes nothing to a table or an output;
- * ask and lookup then set their two values to 0. Digests, records and roots are written at the front of the output, and the bytes behind
- * them stay as they were. A table is aligned as uint64_t is, and so are the two values; bytes need no alignment.
+ * with its count of elements; what a call writes overlaps nothing else that is lent to it. A refused call (not 0) writes nothing to a table
+ * or an output; ask and lookup then set their two values to 0. Digests, records and roots are written at the front of the output, and the
+ * bytes behind them stay as they were. A table is aligned as uint64_t is, and so are the two values; bytes need no alignment.
+ *
+ * Null: no pointer may be null, not even that of an empty buffer. Where the count is 0, pass the address of anything.
  *
  * Stack: dw_tree takes up to 36,768 bytes of it, dw_close 2,896, dw_hash 2,512, dw_add 2,432, dw_load 1,992, dw_open 1,288, dw_save 1,280,
  * dw_drop 1,240, dw_ask 1,128, dw_judge 240, dw_lookup 224 and dw_lay_out 32: measured on x86-64 and on Arm, the larger of both. A thread

@@ -1,5 +1,6 @@
-"""signatures.py FILE: what a compiled program knows of the library. Of a header: each size, each number of an enum and each function's type,
-a line each, without comments and the names of parameters. Of Rattle's source: the types of its functions with C names, as C has them."""
+"""signatures.py FILE: what a compiled program knows of the library. Of a header: each size, each number of an enum and each function's
+type, a line each, without comments and the names of parameters. Of Rattle's source: the types of its functions with C names, as C has
+them."""
 import re
 import sys
 from pathlib import Path

@@ -29,10 +29,10 @@ static void on_stack(void (*use)(void))
     __asm__ volatile("mov x19, sp\n\tmov sp, %0\n\tblr %1\n\tmov sp, x19"
                      : "+r"(top), "+r"(use)
                      :
-                     : "x0", "x1", "x2", "x3", "x4", "x5", "x6", "x7", "x8", "x9", "x10", "x11", "x12", "x13", "x14", "x15", "x16", "x17",
-                       "x18", "x19", "x30", "v0", "v1", "v2", "v3", "v4", "v5", "v6", "v7", "v8", "v9", "v10", "v11", "v12", "v13", "v14", "v15",
-                       "v16", "v17", "v18", "v19", "v20", "v21", "v22", "v23", "v24", "v25", "v26", "v27", "v28", "v29", "v30", "v31",
-                       "cc", "memory");
+                     : "x0", "x1", "x2", "x3", "x4", "x5", "x6", "x7", "x8", "x9", "x10", "x11", "x12", "x13", "x14", "x15", "x16",
+                       "x17", "x18", "x19", "x30", "v0", "v1", "v2", "v3", "v4", "v5", "v6", "v7", "v8", "v9", "v10", "v11", "v12", "v13",
+                       "v14", "v15", "v16", "v17", "v18", "v19", "v20", "v21", "v22", "v23", "v24", "v25", "v26", "v27", "v28", "v29",
+                       "v30", "v31", "cc", "memory");
 #else
 #error "the stack of this machine is not known here"
 #endif
@@ -127,7 +127,8 @@ static void make_list(void)
 }
 
 enum { HASH, LAY_OUT, OPEN, ADD, CLOSE, SAVE, LOAD, ASK, DROP, TREE, JUDGE, LOOKUP, CALLS };
-static const char *const names[CALLS] = {"hash", "lay_out", "open", "add", "close", "save", "load", "ask", "drop", "tree", "judge", "lookup"};
+static const char *const names[CALLS] = {"hash", "lay_out", "open", "add",  "close", "save",
+                                         "load", "ask",     "drop", "tree", "judge", "lookup"};
 static size_t most[CALLS];
 static uint64_t done[CALLS], refused[CALLS];
 
