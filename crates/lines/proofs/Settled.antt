@@ -7,6 +7,8 @@ use Rattle.contracts.specs.Says.{Settles}
 use Rattle.contracts.proofs.Values.{value-settled, both-settled}
 use Rattle.lines.proofs.line as line
 use Rattle.lines.proofs.line.Reads as line-reads
+use Rattle.lines.proofs.reason as reason
+use Rattle.lines.proofs.reason.Reads as reason-reads
 use Rattle.lines.proofs.counts as counts
 use Rattle.lines.proofs.counts.Reads as counts-reads
 use Rattle.lines.proofs.not_a_list as not-a-list
@@ -16,6 +18,9 @@ use Rattle.lines.proofs.counted.Reads as counted-reads
 
 pub line-settled : Settles {A = ℕ × List ℕ} line.ended line-reads.Learnt (λ κs r x. (r, now (x .1 .1 .1 .0)))
 line-settled κs a r s x y = both-settled
+
+pub reason-settled : Settles {A = ℕ × List ℕ} reason.ended reason-reads.Learnt (λ κs r x. (r, now (x .1 .1 .1 .0)))
+reason-settled κs a r s x y = both-settled
 
 pub counts-settled : Settles {A = ℕ × List ℕ} counts.ended counts-reads.Learnt (λ κs r x. (r, now (x .1 .0)))
 counts-settled κs a r s x y = both-settled

@@ -1,5 +1,5 @@
--- In `lineRoom` bytes each line is whole: `line-whole` of every entry of a list, `counts-whole` of the counts of as many files as a list
--- can name, and `not-a-list-whole`. Up to the place that is answered, the output is the line.
+-- In `lineRoom` bytes each line is whole: `line-whole` and `reason-whole` of every entry of a list, `counts-whole` of the counts of as many
+-- files as a list can name, and `not-a-list-whole`. Up to the place that is answered, the output is the line.
 use Prim.Native.Nat.{ℕ, zero, suc, _+_, _/_, _^_, _≤_, _<_}
 use mathlib.Core.Bool.{Bool, true, false, cond}
 use mathlib.Core.List.{List, [], _∷_}
@@ -19,8 +19,9 @@ use Rattle.slices.proofs.Tests.{every-at}
 use Rattle.lists.proofs.Lists.{accepted-valid}
 use Rattle.lists.proofs.Written.{ValidList, valid-list, allowed-pair}
 use Rattle.lines.specs.declared.Verdict.{Verdict}
-use Rattle.lines.specs.Lines.{lineRoom, verdictWord, lineOf, digits, decimal, countLine, notAList, isOk, isBad, isMissing}
-use Rattle.lines.specs.Lines.{sum, tallyOf}
+use Rattle.lines.specs.declared.Why.{Why}
+use Rattle.lines.specs.Lines.{lineRoom, verdictWord, lineOf, whyWords, reasonLine, digits, decimal, countLine, notAList}
+use Rattle.lines.specs.Lines.{isOk, isBad, isMissing, sum, tallyOf}
 use Rattle.lines.specs.code.Putting.{put, behind}
 use Rattle.lines.proofs.Putting.{put-whole}
 use Rattle.lines.proofs.Counting.{at-most-one}
@@ -48,6 +49,19 @@ unfolding lineOf ascii
 line-whole bs i v a h out long =
     put-whole (lineOf v (pairIn i bs .name)) out
     (simp length-append (omega (arith, word-short v, name-short bs i a h)))
+
+words-short : (why : Why) → length (ascii (whyWords why)) ≤ 17
+unfolding ascii
+words-short why =
+    elim why [ Why.NotThere ↦ omega arith | Why.NoPermission ↦ omega arith | Why.Folder ↦ omega arith | Why.Failed ↦ omega arith ]
+
+pub reason-whole : (bs : List ℕ) (i : ℕ) (why : Why) → accepted bs ≡ true → i < countIn bs → (out : List ℕ) → length out ≡ lineRoom →
+    take (behind 0 (reasonLine why (pairIn i bs .name)) out) (put 0 (reasonLine why (pairIn i bs .name)) out)
+    ≡ reasonLine why (pairIn i bs .name)
+unfolding reasonLine
+reason-whole bs i why a h out long =
+    put-whole (reasonLine why (pairIn i bs .name)) out
+    (simp length-append (omega (arith, words-short why, name-short bs i a h)))
 
 cond-short : (b : Bool) (xs : List ℕ) (m : ℕ) → length xs ≤ m → length (cond b [] xs) ≤ m
 cond-short true xs m h = omega arith

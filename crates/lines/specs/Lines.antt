@@ -1,5 +1,6 @@
 -- The lines that the checker writes: SPEC, "The program".
--- `lineOf` is the line of a file, `countLine` the last one, `notAList` the only one where there is no list; `tallyOf` counts verdicts.
+-- `lineOf` is the line of a file, `reasonLine` says why it is missing, `countLine` is the last one, `notAList` the only one where there is
+-- no list; `tallyOf` counts verdicts.
 use Prim.Native.Nat.{ℕ, zero, suc, _+_, _/_, _%_}
 use Prim.Native.String.{String}
 use mathlib.Core.Bool.{cond}
@@ -8,6 +9,7 @@ use lib.Dec.{ltb}
 use lib.ListN.{length}
 use Rattle.fips.specs.Constants.{ascii}
 use Rattle.lines.specs.declared.Verdict.{Verdict}
+use Rattle.lines.specs.declared.Why.{Why}
 use Rattle.lines.specs.declared.Tally.{Tally}
 
 -- the bytes in which every line is whole
@@ -21,6 +23,16 @@ verdictWord (Verdict.Missing why) = "MISSING "
 
 unfoldable pub lineOf : Verdict → List ℕ → List ℕ
 lineOf v name = ascii (verdictWord v) ++ name ++ ascii "\n"
+
+abbrev pub whyWords : Why → String
+whyWords Why.NotThere = ": not there\n"
+whyWords Why.NoPermission = ": no permission\n"
+whyWords Why.Folder = ": a folder\n"
+whyWords Why.Failed = ": reading failed\n"
+
+-- on standard error
+unfoldable pub reasonLine : Why → List ℕ → List ℕ
+reasonLine why name = name ++ ascii (whyWords why)
 
 -- the decimal digits of a number, without zeros in front; its last ones where it has more than so many
 unfoldable pub digits : ℕ → ℕ → List ℕ

@@ -1,11 +1,11 @@
-// The lines that the checker writes: SPEC, "The program". One for each file, the counts, and the one where there is no list.
-// Each is put at the front of an output, and its length is answered; a line that is longer than the output is cut, and in `ROOM` bytes each
-// is whole (`line-whole`, `counts-whole`, `not-a-list-whole`). Nothing here opens, reads or writes a file.
+// The lines that the checker writes: SPEC, "The program". One for each file, why it is missing, the counts, and the one where there is no
+// list. Each is put at the front of an output, and its length is answered; a line that is longer than the output is cut, and in `ROOM`
+// bytes each is whole (`line-whole`, `reason-whole`, `counts-whole`, `not-a-list-whole`). Nothing here opens, reads or writes a file.
 ghost use mathlib.Core.Path.{_≡_};
 ghost use mathlib.Core.List.{_++_};
 ghost use Rattle.fips.specs.Constants.{ascii};
 ghost use Rattle.lists.specs.Calls.{pairIn};
-ghost use Rattle.lines.specs.Lines.{verdictWord, lineOf, decimal, countLine, notAList};
+ghost use Rattle.lines.specs.Lines.{verdictWord, lineOf, whyWords, reasonLine, decimal, countLine, notAList};
 ghost use Rattle.lines.specs.code.Counting.{oneMore, counted};
 ghost use Rattle.lines.specs.code.Putting.{Put};
 
@@ -62,6 +62,25 @@ pub fn line(verdict: Verdict, list: &[u8], i: usize, out: &mut [u8]) -> usize
     let at = verdict_word(verdict, out);
     let end = append(out, at, lists::entries::name(list, i));
     append(out, end, b"\n")
+}
+
+fn why_words(why: Why, out: &mut [u8], at: usize) -> usize
+    ensures { λ r. ⌜ Put at (ascii (whyWords why)) (now (out .entry)) r (now (out .exit)) ⌝ }
+{
+    match why {
+        Why::NotThere => append(out, at, b": not there\n"),
+        Why::NoPermission => append(out, at, b": no permission\n"),
+        Why::Folder => append(out, at, b": a folder\n"),
+        Why::Failed => append(out, at, b": reading failed\n"),
+    }
+}
+
+// Why the file of that number in a list is missing.
+pub fn reason(why: Why, list: &[u8], i: usize, out: &mut [u8]) -> usize
+    ensures { λ r. ⌜ Put 0 (reasonLine why (pairIn i (now (list .entry)) .name)) (now (out .entry)) r (now (out .exit)) ⌝ }
+{
+    let at = append(out, 0, lists::entries::name(list, i));
+    why_words(why, out, at)
 }
 
 pub fn not_a_list(out: &mut [u8]) -> usize
