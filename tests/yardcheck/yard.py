@@ -46,6 +46,19 @@ def run_unheard(words):
     os.close(pipe)
 
 
+def unprivileged():
+    """The words before a command that take root's right to read and write everything from it, none for another user; None where that
+    cannot be done."""
+    words = ["setpriv", "--bounding-set=-dac_override,-dac_read_search"] if os.geteuid() == 0 else []
+    with tempfile.NamedTemporaryFile() as shut:
+        os.chmod(shut.name, 0)
+        try:
+            able = run([*words, "true"])[1] == 0 and run([*words, "cat", shut.name])[1] != 0
+        except OSError:
+            able = False
+    return words if able else None
+
+
 def compare(title, ran, expected):
     """Whether the output and the status are the expected ones."""
     out, status, said = ran

@@ -11,8 +11,9 @@ import tempfile
 from pathlib import Path
 
 from rules import ALLOWED, EDITIONS, LONGEST_LIST, digest, list_of, read, report, write
+from habits import of_habits
 from yard import PLAIN, changed, full_names, longer, rng, seed, shorter, some_files, spoilt
-from yard import command, compare, count, finish, put, root, run, run_unheard, yard
+from yard import command, compare, count, finish, put, root, run, run_unheard, unprivileged, yard
 
 yardlist = str(root / "tools/yardlist")
 
@@ -96,8 +97,9 @@ def of_paths():
         yard(f"a yard in a folder named {folder[:20]}, by its name", list_of(2, files), files, folder=folder, given=folder)
     for given in (b"./yard", b"yard/", b"./yard/../yard"):
         yard(f"a yard given as {given}", list_of(2, files), files, given=given)
-    for folder in (b"-x", b"--", b"-"):
-        yard(f"a yard in {folder}, by its name", list_of(2, files), files, folder=folder, given=folder)
+    yard("a yard in -, by its name", list_of(2, files), files, folder=b"-", given=b"-")
+    for folder in (b"-x", b"--", b"-q"):
+        yard(f"a yard in {folder}, by a path", list_of(2, files), files, folder=folder, given=b"./" + folder)
     data = list_of(2, {**files, b"yard.man": b"?"})
     yard("yard.man lists itself", data, {**files, b"yard.man": data})
 
@@ -165,15 +167,8 @@ def of_lists_that_are_no_files():
 
 
 def without_permission():
-    """Root may read everything, so as root the program is run without that right."""
-    words = ["setpriv", "--bounding-set=-dac_override,-dac_read_search"] if os.geteuid() == 0 else []
-    with tempfile.NamedTemporaryFile() as shut:
-        os.chmod(shut.name, 0)
-        try:
-            able = run([*words, "true"])[1] == 0 and run([*words, "cat", shut.name])[1] != 0
-        except OSError:
-            able = False
-    if not able:
+    words = unprivileged()
+    if words is None:
         print("not run: yards with files that may not be read, as root reads them all and cannot be kept from it here")
         return
 
@@ -408,7 +403,7 @@ def of_starts():
         refused("a missing folder, told as it was given", run([*command, r"a\nb\c"], **here), rb"a\nb\c")
         refused("a file in the place of a folder", run([*command, "yard.man"], **here), b"yard.man")
         refused("two folders", run([*command, ".", "."], **here), b"usage")
-        refused("an empty name", run([*command, ""], **here))
+        refused("an empty name", run([*command, ""], **here), b"empty")
         for kind, ran in run_unheard([*command, path]):
             refused(f"standard output is {kind}", ran)
 
@@ -416,13 +411,13 @@ def of_starts():
             os.symlink(target, os.path.join(above, link))
             compare(f"a start through a link, {link}", run([os.path.join(above, link), path]), fine)
             compare(f"a start through a link, {link}, by its name", run(["./" + link, "yard"], cwd=above), fine)
-            compare(f"a start through a link, {link}, on the sample yard", run(["./" + link], cwd=above), run(command)[:2])
+            compare(f"a start through a link, {link}, in the yard", run([os.path.join(above, link)], **here), fine)
 
         os.mkdir(os.path.join(above, "-t"))
         for place in ("-t", "./-t", os.path.join(above, "-t")):
             compare(f"TMPDIR={place}", run([*command, "yard"], cwd=above, env={**os.environ, "TMPDIR": place}), fine)
         count(not os.listdir(os.path.join(above, "-t")), "TMPDIR is left empty")
-        refused("a missing TMPDIR", run([*command, "yard"], cwd=above, env={**os.environ, "TMPDIR": "none"}))
+        refused("a missing TMPDIR", run([*command, "yard"], cwd=above, env={**os.environ, "TMPDIR": "none"}), b"temporary files")
 
         kit = os.environ.get("RATTLE_HOME") or Path(shutil.which("rt")).resolve().parents[1]
         without = {**os.environ, "PATH": path_without_rt(above)}
@@ -448,14 +443,14 @@ def path_without_rt(above):
 
 
 def of_the_sample_yard():
-    """Without a folder's name the program checks the project's own sample."""
+    """The project's own sample, which README shows."""
     sample = root / "sample-yard"
     if not sample.is_dir():
         print("not run: there is no sample-yard/")
         return
     reads = {os.fsencode(path.name): path.read_bytes() for path in sample.iterdir() if path.is_file()}
-    for cwd in (root, root / "tests"):
-        compare(f"the sample yard, from {cwd.name}", run(command, cwd=cwd), report(reads[b"yard.man"], reads))
+    for cwd, words in ((root, ["sample-yard"]), (root / "tests", ["../sample-yard"]), (sample, [])):
+        compare(f"the sample yard, from {cwd.name}", run([*command, *words], cwd=cwd), report(reads[b"yard.man"], reads))
 
 
 print(f"seed {seed} (SEED={seed} repeats this run)")
@@ -477,8 +472,9 @@ if built:
     of_every_byte()
     of_any_kind()
     of_yardlist()
-    of_the_sample_yard()
     # another command is given a folder and no more
     if not os.environ.get("YARDCHECK"):
+        of_the_sample_yard()
         of_starts()
+        of_habits()
 finish()
