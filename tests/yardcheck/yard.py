@@ -30,7 +30,7 @@ def run(words, timeout=120, **how):
     how = {"stdin": subprocess.DEVNULL, "stdout": subprocess.PIPE, "stderr": subprocess.PIPE, **how}
     try:
         ran = subprocess.run(words, timeout=timeout, **how)
-        return ran.stdout or b"", ran.returncode, ran.stderr
+        return ran.stdout or b"", ran.returncode, ran.stderr or b""
     except subprocess.TimeoutExpired as late:
         return late.stdout or b"", None, late.stderr or b""
 

@@ -1,6 +1,5 @@
 -- `lines::reason` meets its contract: the name, and the words behind it.
 use borrow.Author.Needs.{needs}
-use Rattle.fips.specs.Constants.{ascii}
 use Rattle.lines.specs.Lines.{reasonLine}
 use Rattle.lines.proofs.Putting.{then, renamed}
 use Rattle.lines.proofs.reason.Statement.{statement}
