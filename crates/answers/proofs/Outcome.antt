@@ -14,7 +14,8 @@ abbrev pub answers : List Answer
 answers =
     Answer.Done ∷ Answer.BadTable ∷ Answer.NoSuchBay ∷ Answer.BayTaken ∷ Answer.BayEmpty
     ∷ Answer.NoSuchEdition ∷ Answer.NotSound ∷ Answer.TooLong ∷ Answer.BadClosing ∷ Answer.ShortOutput
-    ∷ Answer.BadRecord ∷ Answer.BadLayout ∷ Answer.NotAList ∷ Answer.NotListed ∷ Answer.DigestDiffers ∷ []
+    ∷ Answer.BadRecord ∷ Answer.BadLayout ∷ Answer.NotAList ∷ Answer.NotListed ∷ Answer.DigestDiffers
+    ∷ Answer.ForbiddenName ∷ Answer.NameTaken ∷ Answer.ListFull ∷ []
 
 pub answer-at : (a : Answer) → getD answers (numberOf a) Answer.Done ≡ a
 answer-at a =
@@ -34,6 +35,9 @@ answer-at a =
       | Answer.NotAList ↦ refl
       | Answer.NotListed ↦ refl
       | Answer.DigestDiffers ↦ refl
+      | Answer.ForbiddenName ↦ refl
+      | Answer.NameTaken ↦ refl
+      | Answer.ListFull ↦ refl
     ]
 
 pub number-injective : (a b : Answer) → numberOf a ≡ numberOf b → a ≡ b

@@ -18,7 +18,7 @@ use Rattle.answers.proofs.Tests.{refusing, passed, first-on, first-off}
 -- ---- the cases of an answer that are left where it is not Done
 
 abbrev pub others : List ℕ
-others = 1 ∷ 2 ∷ 3 ∷ 4 ∷ 5 ∷ 6 ∷ 7 ∷ 8 ∷ 9 ∷ 10 ∷ 11 ∷ 12 ∷ 13 ∷ 14 ∷ []
+others = 1 ∷ 2 ∷ 3 ∷ 4 ∷ 5 ∷ 6 ∷ 7 ∷ 8 ∷ 9 ∷ 10 ∷ 11 ∷ 12 ∷ 13 ∷ 14 ∷ 15 ∷ 16 ∷ 17 ∷ []
 
 pub refuses : (a : Answer) → OneOf others (tagOf declared.the-type a) → 0 < numberOf a
 refuses a h = go (numberOf a) refl

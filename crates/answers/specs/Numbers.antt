@@ -19,3 +19,6 @@ numberOf Answer.BadLayout = 11
 numberOf Answer.NotAList = 12
 numberOf Answer.NotListed = 13
 numberOf Answer.DigestDiffers = 14
+numberOf Answer.ForbiddenName = 15
+numberOf Answer.NameTaken = 16
+numberOf Answer.ListFull = 17

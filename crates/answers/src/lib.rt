@@ -32,8 +32,14 @@ pub enum Answer {
     NotAList,
     // 13: the list does not have the name
     NotListed,
-    // 14: the list has another digest
+    // 14: the list has another digest, or digests of another size
     DigestDiffers,
+    // 15: no list may have the name
+    ForbiddenName,
+    // 16: the list has the name already
+    NameTaken,
+    // 17: the list has as many entries as a list may have
+    ListFull,
 }
 
 pub fn number(answer: Answer) -> u64
@@ -55,5 +61,8 @@ pub fn number(answer: Answer) -> u64
         Answer::NotAList => 12,
         Answer::NotListed => 13,
         Answer::DigestDiffers => 14,
+        Answer::ForbiddenName => 15,
+        Answer::NameTaken => 16,
+        Answer::ListFull => 17,
     }
 }
