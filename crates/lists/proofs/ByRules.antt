@@ -1,7 +1,7 @@
 -- The rules of SPEC, "Digest list", one by one say the same of any bytes as `accepted`: `by-rules`.
 -- One way, the bytes of a valid list keep the rules, `valid-right`; the other, bytes that keep them are those of the list read,
--- `right-list`.
-use mathlib.Core.Bool.{true}
+-- `right-list`. Judging in two steps, as the code does it: `header-refuses` and `entries-decide`.
+use mathlib.Core.Bool.{Bool, true, false}
 use mathlib.Core.List.{List, [], _∷_, _++_, append-assoc}
 use mathlib.Core.Path.{_≡_, refl, sym, ap, subst, _∙_}
 use Prim.Native.Nat.{ℕ, zero, suc, _+_, _-_, _*_, _^_, _<_, _≤_}
@@ -265,3 +265,20 @@ pub accepted-entries : (bs : List ℕ) → accepted bs ≡ true →
     entriesRight (countIn bs) (entrySize (digestSizeIn bs)) [] (namesAt (countIn bs) (digestSizeIn bs)) (drop entriesAt bs) bs ≡ true
 unfolding byRules
 accepted-entries bs e = cond-both (headerRight bs) _ (accepted-right bs e) .1
+
+-- ---- the two steps of judging: the header, and then the entries, where count and digest size are at hand
+
+pub header-refuses : (bs : List ℕ) → Bytes bs → headerRight bs ≡ false → false ≡ accepted bs
+unfolding byRules
+header-refuses bs b e = rw e at (by-rules bs b)
+
+module _ (bs : List ℕ) (n d : ℕ) (pn : n ≡ countIn bs) (pd : d ≡ digestSizeIn bs) (h : headerRight bs ≡ true) where
+  pub names-inside : namesAt n d ≤ length bs
+  names-inside = rw (pd, pn) (right-header bs h .within)
+
+  pub entries-few : n ≤ mostEntries
+  entries-few = rw pn (right-header bs h .few)
+
+  pub entries-decide : (r : Bool) → Bytes bs → r ≡ entriesRight n (entrySize d) [] (namesAt n d) (drop entriesAt bs) bs → r ≡ accepted bs
+  unfolding byRules
+  entries-decide r b q = q ∙ rw (pd, pn) (rw h at (by-rules bs b))

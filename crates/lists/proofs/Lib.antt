@@ -7,4 +7,5 @@ pub mod Walk
 pub mod Places
 pub mod ByNumber
 pub mod Lists
+pub mod Earlier
 pub mod Settled

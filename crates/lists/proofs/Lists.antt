@@ -54,7 +54,7 @@ valid-short l v = rw (list-length l (valid-list l v)) (whole-short l (valid-list
 pub list-short : (bs : List ℕ) → accepted bs ≡ true → length bs ≤ longestList
 list-short bs e = subst (λ (l : List ℕ). length l ≤ longestList) (accepted-bytes bs e) (valid-short (readList bs) (accepted-valid bs e))
 
-digest-is-bytes : (d : ℕ) (p : Pair) → pairAllowed d p ≡ true → Bytes (p .digest)
+pub digest-is-bytes : (d : ℕ) (p : Pair) → pairAllowed d p ≡ true → Bytes (p .digest)
 unfolding pairAllowed
 digest-is-bytes d p e = allBelow-below 256 (p .digest) (omega arith) (holds-at _ e 2)
 
@@ -120,7 +120,7 @@ module _ (l : DigestList) (v : valid l ≡ true) (p : Pair) where
       let y : j < i → ⊥ = λ q. earlier j i q h (sym e) in
       omega arith
 
-before-differs : (xs ys : List ℕ) → before xs ys ≡ true → same xs ys ≡ false
+pub before-differs : (xs ys : List ℕ) → before xs ys ≡ true → same xs ys ≡ false
 before-differs xs ys e =
     same-apart xs ys (λ s. false≢true (sym (before-not-self xs) ∙ ap (before xs) s ∙ e))
 

@@ -74,7 +74,7 @@ module _ (d at : ℕ) (p : Pair) (rest : List ℕ) (a : AllowedPair d p) where
 
 -- ---- lengths
 
-length-entryRun : (d at : ℕ) (ps : List Pair) → every (pairAllowed d) ps ≡ true → length (entryRun at ps) ≡ length ps * entrySize d
+pub length-entryRun : (d at : ℕ) (ps : List Pair) → every (pairAllowed d) ps ≡ true → length (entryRun at ps) ≡ length ps * entrySize d
 unfolding every entryRun
 length-entryRun d at [] e = sym (zero-mul (entrySize d))
 length-entryRun d at (p ∷ ps) e =

@@ -21,7 +21,7 @@ pub fn count(list: &[u8]) -> usize
     number(list, fields::COUNT_AT, fields::NUMBER)
 }
 
-pub(crate) fn digest_size(list: &[u8]) -> usize
+pub fn digest_size(list: &[u8]) -> usize
     ensures { λ r. ⌜ r ≡ digestSizeIn (now (list .entry)) ⌝ }
 {
     fips::lookup::digest_bytes(edition(list))

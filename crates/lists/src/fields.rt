@@ -7,9 +7,9 @@ ghost use Rattle.bigendian.specs.Rows.{fieldIn};
 ghost use Rattle.lists.specs.Layout.{entryHead, nameLength};
 
 // The bytes of a number, and of an offset or a length.
-pub(crate) const NUMBER: usize = 2;
+pub const NUMBER: usize = 2;
 
-pub(crate) const OFFSET: usize = 4;
+pub const OFFSET: usize = 4;
 
 // The header's fields; the entries begin where it ends.
 pub(crate) const EDITION_AT: usize = 0;
@@ -20,14 +20,14 @@ pub(crate) const ENTRIES_FIELD_AT: usize = 4;
 
 pub(crate) const NAMES_FIELD_AT: usize = 8;
 
-pub(crate) const WHOLE_FIELD_AT: usize = 12;
+pub const WHOLE_FIELD_AT: usize = 12;
 
-pub(crate) const ENTRIES_AT: usize = 16;
+pub const ENTRIES_AT: usize = 16;
 
 // An entry begins with where its name begins; then the name's length, then the digest.
 const NAME_LENGTH_AT: usize = 4;
 
-pub(crate) const ENTRY_HEAD: usize = 8;
+pub const ENTRY_HEAD: usize = 8;
 
 pub(crate) fn number(list: &[u8], at: usize, n: usize) -> usize
     requires { ⌜ n ≤ 8 ⌝ }

@@ -1,8 +1,9 @@
 // Digest lists, SPEC, "Digest list": the digest of a name in a list, and judging a digest by it.
-// `find` says where a digest lies; `lookup` lends it out of the list, and `judge` compares with it. Any bytes are taken.
-mod fields;
-mod names;
+// `find` says where a digest lies; `lookup` lends it out of the list, and `judge` compares with it. `place` says where a name belongs, for
+// one who writes a list. Any bytes are taken.
 mod rules;
+pub mod fields; // fields.rt: where a list has its numbers
+pub mod names; // names.rt: which names a list may have
 pub mod entries; // entries.rt: the names and digests by number
 pub mod order; // order.rt: which of two names comes first
 
@@ -14,11 +15,16 @@ ghost use Rattle.answers.specs.Judged.{first};
 ghost use Rattle.answers.specs.Numbers.{numberOf};
 ghost use Rattle.slices.specs.Parts.{LiesAt};
 ghost use Rattle.lists.specs.Calls.{listedDigest, listedPlace, foundNumber, foundSpot, Finds, judgeTests};
+ghost use Rattle.lists.specs.code.Place.{Placed};
 ghost use Rattle.lists.specs.Layout.{accepted};
+ghost use Rattle.lists.specs.code.Rules.{namesEntry};
+
+// House: so many entries at most.
+pub const MOST_ENTRIES: usize = 256;
 
 // No list is longer: the header, and the most entries, with digests of 64 bytes and the longest names.
 pub const LONGEST: usize = fields::ENTRIES_AT
-    + rules::MOST_ENTRIES * (fields::ENTRY_HEAD + 64 + names::LONGEST);
+    + MOST_ENTRIES * (fields::ENTRY_HEAD + 64 + names::LONGEST);
 
 // What looking for a name finds, with its number.
 pub enum Found {
@@ -30,18 +36,53 @@ pub enum Found {
     NotAList,
 }
 
-// The header and then the entries, rule by rule in one pass.
+// What one reading of the bytes tells of a name: whether they are a list, how many of its names come before the name, and whether it has
+// the name.
+pub struct Placing {
+    pub accepted: bool,
+    pub earlier: usize,
+    pub listed: bool,
+}
+
+// Whether the entry of that number has the name.
+fn names_entry(list: &[u8], i: usize, name: &[u8]) -> bool
+    ensures { λ r. ⌜ r ≡ namesEntry (now (list .entry)) i (now (name .entry)) ⌝ }
+{
+    if entries::count(list) <= i {
+        return false;
+    }
+    same_bytes(entries::name(list, i), name)
+}
+
+// The header and then the entries, rule by rule in one pass, which also counts the names that come before.
+pub fn place(list: &[u8], name: &[u8]) -> Placing
+    ensures { λ r. ⌜ Placed (now (list .entry)) (now (name .entry)) (r .accepted) (r .earlier) (r .listed) ⌝ }
+{
+    if rules::header_right(list) {
+        let walk = rules::walk(list, name, entries::count(list), entries::digest_size(list));
+        if walk.right {
+            let earlier = walk.earlier;
+            let listed = names_entry(list, earlier, name);
+            return Placing {
+                accepted: true,
+                earlier,
+                listed,
+            };
+        }
+    }
+    Placing {
+        accepted: false,
+        earlier: 0,
+        listed: false,
+    }
+}
+
+// Whether the bytes are a list, whatever name is looked for.
 pub fn is_list(list: &[u8]) -> bool
     ensures { λ r. ⌜ r ≡ accepted (now (list .entry)) ⌝ }
 {
-    if !rules::header_right(list) {
-        return false;
-    }
-    rules::entries_right(
-        list,
-        entries::count(list),
-        fields::ENTRY_HEAD + entries::digest_size(list),
-    )
+    let place = place(list, &list[..0]);
+    place.accepted
 }
 
 // In a list each name starts where the last one ends, so only its length is read.

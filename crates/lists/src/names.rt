@@ -4,7 +4,7 @@ ghost use Rattle.slices.specs.Tests.{every};
 ghost use Rattle.lists.specs.Lists.{inName, nameAllowed};
 
 // House: the longest name.
-pub(crate) const LONGEST: usize = 64;
+pub const LONGEST: usize = 64;
 
 fn in_name(b: u8) -> bool
     ensures { λ r. ⌜ r ≡ inName b ⌝ }
@@ -25,7 +25,7 @@ fn all_in_name(name: &[u8]) -> bool
     true
 }
 
-pub(crate) fn allowed(name: &[u8]) -> bool
+pub fn allowed(name: &[u8]) -> bool
     ensures { λ r. ⌜ r ≡ nameAllowed (now (name .entry)) ⌝ }
 {
     if name.len() < 1 {

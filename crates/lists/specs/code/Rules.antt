@@ -8,7 +8,8 @@ use lib.ListN.{length, drop}
 use Rattle.bigendian.specs.Rows.{fieldIn}
 use Rattle.fips.specs.Editions.{known}
 use Rattle.slices.specs.Parts.{part}
-use Rattle.slices.specs.Tests.{holds}
+use Rattle.slices.specs.Tests.{holds, same}
+use Rattle.lists.specs.Calls.{pairIn}
 use Rattle.lists.specs.Order.{before}
 use Rattle.lists.specs.Lists.{mostEntries, nameAllowed}
 use Rattle.lists.specs.Layout.{offsetSize, entriesFieldAt, namesFieldAt, wholeFieldAt, entriesAt, entrySize, namesAt}
@@ -45,6 +46,14 @@ entriesRight zero size last next entries bs = eqb next (length bs)
 entriesRight (suc n) size last next entries bs =
     let len = nameLength entries in
     cond (entryRight last next entries bs) (entriesRight n size (part bs next len) (next + len) (drop size entries) bs) false
+
+-- how many names come before one that is looked for, with one entry more, whose number is i and whose name comes before it or not
+unfoldable pub moreEarlier : ℕ → ℕ → Bool → ℕ
+moreEarlier n i b = cond (eqb n i) (cond b (suc n) n) n
+
+-- there is an entry of that number, and it has the name
+unfoldable pub namesEntry : List ℕ → ℕ → List ℕ → Bool
+namesEntry bs i name = cond (leb (countIn bs) i) false (same (pairIn i bs .name) name)
 
 unfoldable pub byRules : List ℕ → Bool
 byRules bs =
