@@ -20,6 +20,9 @@ const char *dw_answer_text(uint64_t number)
         "not a digest list",
         "name not listed",
         "digest differs",
+        "name forbidden",
+        "name taken",
+        "list full",
     };
     return number < sizeof texts / sizeof *texts ? texts[number] : "no such answer";
 }

@@ -20,32 +20,35 @@
  * Where several apply it is the first in the order that stands beside the call.
  *
  * Memory: the caller owns all of it and lends it for the length of the call. Nothing is allocated, and no pointer is kept. A pointer comes
- * with its count of elements; what a call writes overlaps nothing else that is lent to it. A refused call (not 0) writes nothing to a table
- * or an output; ask and lookup then set their two values to 0. Digests, records and roots are written at the front of the output, and the
- * bytes behind them stay as they were. A table is aligned as uint64_t is, and so are the two values; bytes need no alignment.
+ * with its count of elements; what a call writes overlaps nothing else that is lent to it. A refused call (not 0) writes nothing to a
+ * table, an output or a list's buffer; ask and lookup then set their two values to 0. Digests, records, roots and lists are written at the
+ * front of the output, and the bytes behind them stay as they were. A table is aligned as uint64_t is, and so are the two values; bytes
+ * need no alignment.
  *
  * Null: no pointer may be null, not even that of an empty buffer. Where the count is 0, pass the address of anything.
  *
  * Stack: dw_tree takes up to 36,768 bytes of it, dw_close 2,896, dw_hash 2,512, dw_add 2,432, dw_load 1,992, dw_open 1,288, dw_save 1,280,
- * dw_drop 1,240, dw_ask 1,128, dw_judge 240, dw_lookup 224 and dw_lay_out 32: measured on x86-64 and on Arm, the larger of both. A thread
- * with a small stack has to have as much to spare; two macros below have it in round numbers.
+ * dw_drop 1,240, dw_ask 1,128, dw_judge 424, dw_list_put 408, dw_lookup 408, dw_list_start 32 and dw_lay_out 32: measured on
+ * x86-64 and on Arm, the larger of both. A thread with a small stack has to have as much to spare; two macros below have it in round
+ * numbers.
  *
- * Threads: nothing is kept between calls but what stands in a table. Calls on different tables, and calls on none, may run at once, each
- * with outputs of its own; on one table only dw_ask and dw_save may run beside each other.
+ * Threads: nothing is kept between calls but what stands in a table, or in a buffer with a list. Calls on different tables, and calls on
+ * none, may run at once, each with outputs of its own, and a buffer in which a list is written is such an output; on one table only dw_ask
+ * and dw_save may run beside each other. None may read what another writes: no dw_judge beside a dw_list_put on one buffer.
  *
  * C++: include this as it is; the names are extern "C", and nothing throws. Answers are uint64_t and compare with the names of the enums as
  * they are; to make an enum of one takes a cast. An edition of the enum is passed as it is. data() of an empty std::vector, std::span or
  * std::string_view may be null: pass the address of something else then.
  *
- * Machines: a record means the same on every machine. A table belongs to the machine it was made on: its words are in that machine's own
- * byte order. size_t must have 64 bits, which is checked below.
+ * Machines: a record and a list mean the same on every machine. A table belongs to the machine it was made on: its words are in that
+ * machine's own byte order. size_t must have 64 bits, which is checked below.
  *
  * Versions: until 1.0 the second number of DW_VERSION grows whenever a signature, a number or a size of this header changes, and the name
  * by which the shared library is loaded with it. So a program that was compiled with another header does not start with it.
  *
  * Linking: the library needs memcpy and memset of the C library, and nothing else.
  *
- * Proved: the twelve calls, down to every byte that they write. Not proved, but tested: this header and dw_answer_text, which are C.
+ * Proved: the fourteen calls, down to every byte that they write. Not proved, but tested: this header and dw_answer_text, which are C.
  */
 #ifndef DWOMBARINE_H
 #define DWOMBARINE_H
@@ -57,7 +60,7 @@
 extern "C" {
 #endif
 
-#define DW_VERSION "0.1.0"
+#define DW_VERSION "0.2.0"
 
 /* the library takes every count as 64 bits: where size_t has not so many, this does not compile */
 typedef char dw_size_t_has_64_bits[sizeof(size_t) == 8 ? 1 : -1];
@@ -78,7 +81,10 @@ enum dw_answer {
     DW_BAD_LAYOUT = 11,     /* not 1 to 64 bays, or too few words for them */
     DW_NOT_A_LIST = 12,     /* not a digest list */
     DW_NOT_LISTED = 13,     /* the list has no such name */
-    DW_DIGEST_DIFFERS = 14  /* the list has another digest for the name */
+    DW_DIGEST_DIFFERS = 14, /* the list has another digest for the name; dw_list_put: the digest has not the size of the list's edition */
+    DW_FORBIDDEN_NAME = 15, /* no list may have the name */
+    DW_NAME_TAKEN = 16,     /* the list has the name already */
+    DW_LIST_FULL = 17       /* the list has 256 entries */
 };
 
 /* The editions of SHA-2. */
@@ -102,11 +108,19 @@ enum dw_edition {
 /* bytes of a bay's record, over the edition and the count that dw_ask tells; 0 where it tells of an empty bay, which has none */
 #define DW_RECORD_BYTES(edition, count) \
     ((edition) == 1 || (edition) == 2 ? 56 + (count) % 64 : (edition) >= 3 && (edition) <= 6 ? 88 + (count) % 128 : 0)
-/* the longest digest, the longest record, the root of a tree, and the longest map that a tree is made of */
+/* the longest digest, the longest record, the root of a tree, and the longest map that a tree is made of; the longest list, which is
+ * 16 + 256 * (8 + 64 + 64) bytes: a header, and 256 times an entry's two numbers, the longest digest and the longest name */
 #define DW_LONGEST_DIGEST 64
 #define DW_LONGEST_RECORD 215
 #define DW_ROOT_BYTES 32
 #define DW_LONGEST_MAP 1048576
+#define DW_LONGEST_LIST 34832
+/* bytes of the list that a buffer has at its front, a size_t: a list tells its own length in its bytes 12 to 15, most significant first. Of
+ * bytes that are no list it reads whatever stands there; a buffer of fewer than 16 bytes has no such bytes, and no list. So it is for a
+ * buffer on which a start or a put was done, or to be compared with the buffer's bytes first: of other bytes it may say more than there
+ * are, and a call that is lent so many would read past the end. */
+#define DW_LIST_BYTES(list) \
+    ((size_t)((list)[12] & 255) << 24 | (size_t)((list)[13] & 255) << 16 | (size_t)((list)[14] & 255) << 8 | (size_t)((list)[15] & 255))
 /* bytes of stack that dw_tree takes at most, and that each other call does */
 #define DW_TREE_STACK 37000
 #define DW_STACK 3000
@@ -150,6 +164,25 @@ uint64_t dw_judge(const uint8_t *list, size_t n, const uint8_t *name, size_t nam
 /* To get a listed digest: tells where in the list it lies and how long it is, both 0 where there is none. Each call reads the whole list
  * again. 12, 13. */
 uint64_t dw_lookup(const uint8_t *list, size_t n, const uint8_t *name, size_t name_n, size_t *at, size_t *len);
+
+/* To begin a list: puts the list of an edition with no entries, 16 bytes, at the front of a buffer of n bytes that held anything. 5, 9.
+ * With `uint8_t list[DW_LONGEST_LIST]`, two digests of 32 bytes and a file, a list of two names is made by
+ *
+ *    dw_list_start(DW_SHA256, list, sizeof list);
+ *    dw_list_put(list, sizeof list, (const uint8_t *)"yard.map", 8, map_digest, sizeof map_digest);
+ *    dw_list_put(list, sizeof list, (const uint8_t *)"fleet.cfg", 9, fleet_digest, sizeof fleet_digest);
+ *    fwrite(list, 1, DW_LIST_BYTES(list), file);                                        // 113 bytes, fleet.cfg first
+ */
+uint64_t dw_list_start(uint64_t edition, uint8_t *buffer, size_t n);
+
+/* For each pair of a list, in any order: puts a name, 1 to 64 bytes from 0x21 to 0x7e, and its digest, as many bytes as the list's edition
+ * has, in their place in the list at the front of the buffer, whoever wrote that. Lists grow in place: n is the bytes of the whole buffer,
+ * and the list in it has DW_LIST_BYTES, before and after; so many are to be kept, and are what dw_judge and dw_lookup are lent. The list
+ * grows by 8 bytes, the digest and the name, and n need be no more than it then has; in DW_LONGEST_LIST bytes no pair is refused for want
+ * of room. Neither name nor digest may lie in the buffer, not behind the list either. While a put runs the buffer holds no list: what has
+ * to outlive a restart is copied out between two puts. Each call reads the whole list again, to know that it is one. 12, 15, 14, 16, 17,
+ * 9. */
+uint64_t dw_list_put(uint8_t *buffer, size_t n, const uint8_t *name, size_t name_n, const uint8_t *digest, size_t digest_n);
 
 /* For a message to a person: what an answer means in words, such as "bay taken"; "no such answer" for every other number. The text is
  * constant and never null. This one is a small function in C beside the library, and nothing is proved of it. */

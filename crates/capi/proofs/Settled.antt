@@ -33,6 +33,10 @@ use Rattle.capi.proofs.dw_judge as dw-judge
 use Rattle.capi.proofs.dw_judge.Reads as dw-judge-reads
 use Rattle.capi.proofs.dw_lookup as dw-lookup
 use Rattle.capi.proofs.dw_lookup.Reads as dw-lookup-reads
+use Rattle.capi.proofs.dw_list_start as dw-list-start
+use Rattle.capi.proofs.dw_list_start.Reads as dw-list-start-reads
+use Rattle.capi.proofs.dw_list_put as dw-list-put
+use Rattle.capi.proofs.dw_list_put.Reads as dw-list-put-reads
 
 pub dw-hash-settled : Settles {A = ℕ × List ℕ} dw-hash.ended dw-hash-reads.Learnt (λ κs r x. (r, now (x .1 .1 .1 .1 .0)))
 dw-hash-settled κs a r s x y = number-both
@@ -73,3 +77,9 @@ pub dw-lookup-settled : Settles {A = ℕ × ℕ × ℕ} dw-lookup.ended dw-looku
 dw-lookup-settled κs a r s x y j k =
     let o = number-both j k in
     λ i. (o i .0, o i .1 .at, o i .1 .length)
+
+pub dw-list-start-settled : Settles {A = ℕ × List ℕ} dw-list-start.ended dw-list-start-reads.Learnt (λ κs r x. (r, now (x .1 .0)))
+dw-list-start-settled κs a r s x y = number-both
+
+pub dw-list-put-settled : Settles {A = ℕ × List ℕ} dw-list-put.ended dw-list-put-reads.Learnt (λ κs r x. (r, now (x .0)))
+dw-list-put-settled κs a r s x y j k = number-both (j .0) (k .0)

@@ -7,6 +7,7 @@ ghost use Rattle.calls.specs.Calls.{Call, told, Lends, Outcome, Asks};
 ghost use Rattle.lists.specs.Calls.{spot, Finds, judgeTests};
 ghost use Rattle.sha2.specs.Hash.{Hashes};
 ghost use Rattle.tree.specs.Tree.{Trees};
+ghost use Rattle.writer.specs.Writing;
 use lists::Found;
 
 #[no_mangle]
@@ -135,4 +136,19 @@ pub extern "C" fn dw_lookup(list: &[u8], name: &[u8], at: &mut usize, len: &mut 
             12
         }
     }
+}
+
+#[no_mangle]
+pub extern "C" fn dw_list_start(edition: u64, buffer: &mut [u8]) -> u64
+    ensures { λ r. ⌜ Writing.Starts edition (now (buffer .entry)) r (now (buffer .exit)) ⌝ }
+{
+    answers::number(writer::start(edition, buffer))
+}
+
+#[no_mangle]
+pub extern "C" fn dw_list_put(buffer: &mut [u8], name: &[u8], digest: &[u8]) -> u64
+    ensures { λ r. ⌜ Writing.Puts (now (buffer .entry)) (now (name .entry)) (now (digest .entry)) r (now (buffer .exit)) ⌝ }
+    ensures { λ _. ⌜ Writing.Lends (now (buffer .entry)) (now (name .entry)) (now (digest .entry)) ⌝ }
+{
+    answers::number(writer::put(buffer, name, digest))
 }
