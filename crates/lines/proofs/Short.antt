@@ -50,7 +50,7 @@ line-whole bs i v a h out long =
     put-whole (lineOf v (pairIn i bs .name)) out
     (simp length-append (omega (arith, word-short v, name-short bs i a h)))
 
-words-short : (why : Why) → length (ascii (whyWords why)) ≤ 17
+pub words-short : (why : Why) → length (ascii (whyWords why)) ≤ 17
 unfolding ascii
 words-short why =
     elim why [ Why.NotThere ↦ omega arith | Why.NoPermission ↦ omega arith | Why.Folder ↦ omega arith | Why.Failed ↦ omega arith ]
@@ -67,7 +67,7 @@ cond-short : (b : Bool) (xs : List ℕ) (m : ℕ) → length xs ≤ m → length
 cond-short true xs m h = omega arith
 cond-short false xs m h = h
 
-digits-short : (k fuel n : ℕ) → n < 10 ^ suc k → length (digits fuel n) ≤ suc k
+pub digits-short : (k fuel n : ℕ) → n < 10 ^ suc k → length (digits fuel n) ≤ suc k
 unfolding digits
 digits-short k zero n h = omega arith
 digits-short zero (suc fuel) n h = rw (lt-ltb n 10 h) (omega arith)

@@ -9,7 +9,7 @@ ghost use Rattle.lines.specs.Lines.{verdictWord, lineOf, whyWords, reaso
 ghost use Rattle.lines.specs.code.Counting.{oneMore, counted};
 ghost use Rattle.lines.specs.code.Putting.{Put};
 
-mod text; // text.rt: one text behind another in an output
+pub mod text; // text.rt: one text behind another in an output
 
 use crate::text::append;
 
@@ -64,7 +64,8 @@ pub fn line(verdict: Verdict, list: &[u8], i: usize, out: &mut [u8]) -> usize
     append(out, end, b"\n")
 }
 
-fn why_words(why: Why, out: &mut [u8], at: usize) -> usize
+// Why a file is missing, in words, and the line's end.
+pub fn why_words(why: Why, out: &mut [u8], at: usize) -> usize
     ensures { λ r. ⌜ Put at (ascii (whyWords why)) (now (out .entry)) r (now (out .exit)) ⌝ }
 {
     match why {
@@ -90,7 +91,7 @@ pub fn not_a_list(out: &mut [u8]) -> usize
 }
 
 // A number and what it counts.
-fn count(out: &mut [u8], at: usize, n: u64, what: &[u8]) -> usize
+pub fn count(out: &mut [u8], at: usize, n: u64, what: &[u8]) -> usize
     ensures { λ r. ⌜ Put at (decimal n ++ now (what .entry)) (now (out .entry)) r (now (out .exit)) ⌝ }
 {
     let mut digits = [0u8; 20];

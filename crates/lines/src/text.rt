@@ -4,7 +4,7 @@ use slices::front::put_front;
 use slices::places::least;
 
 // Puts the text at a place, and answers the place behind it.
-pub(crate) fn append(out: &mut [u8], at: usize, text: &[u8]) -> usize
+pub fn append(out: &mut [u8], at: usize, text: &[u8]) -> usize
     ensures { λ r. ⌜ Put at (now (text .entry)) (now (out .entry)) r (now (out .exit)) ⌝ }
 {
     let start = least(at, out.len());

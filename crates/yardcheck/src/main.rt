@@ -2,12 +2,11 @@
 // writes a line for each and the counts; on standard error, why a file is missing. What is said of a file is `report`'s and in which words
 // `lines`'; here files are opened, read and closed, and lines are written. Its memory is one list, one piece, one bay and one line, however
 // long the files are.
-mod reading;
-
 ghost use Rattle.report.specs.code.Program.{Verdicted};
 use lines::Tally;
 use lines::Verdict;
 use lists::entries;
+use reading::Filled;
 use report::file;
 
 // Writes the line of n bytes at the front of a buffer.
@@ -75,15 +74,15 @@ fn check(list: &[u8]) {
     write_counts(tally);
 }
 
-// A buffer of one byte more than the longest list has: bytes that fill it are no list (`list-short` of `lists`), and nor are the no bytes
-// of a list that cannot be read.
+// A buffer of one byte more than the longest list has: bytes that fill it are no list (`list-short` of `lists`).
 fn main() {
     let mut buffer = [0u8; lists::LONGEST + 1];
-    let n = reading::whole(b"yard.man", &mut buffer);
-    let list = &buffer[..n];
-    if lists::is_list(list) {
-        check(list);
-    } else {
-        write_not_a_list();
+    if let Filled::Bytes(n) = reading::whole(b"yard.man", &mut buffer) {
+        let list = &buffer[..n];
+        if lists::is_list(list) {
+            check(list);
+            return;
+        }
     }
+    write_not_a_list();
 }

@@ -1,10 +1,10 @@
-// Reading: a whole file at once, and a file piece by piece into a bay. A read may bring fewer bytes than were asked for, and one that a
-// signal interrupts has failed only for that turn. Nothing says that a file ends, so each loop counts its turns down, from a number that
-// no run uses up.
-ghost use Rattle.io.specs.Counts.{Counts};
+// Reading: what the programs ask of the system. A whole file at once, and a file piece by piece into a bay. A read may bring fewer bytes
+// than were asked for, and one that a signal interrupts has failed only for that turn. Nothing says that a file ends, so each loop counts
+// its turns down, from a number that no run uses up. What a file holds is the system's: the contracts say that there is such a file.
 ghost use Rattle.lists.specs.Layout.{editionIn};
 ghost use Rattle.report.specs.code.Files.{Reading};
 ghost use Rattle.report.specs.code.Program.{File, Led};
+ghost use Rattle.reading.specs.Filled.{Fills};
 use lines::Why;
 use report::Brought;
 use report::Ending;
@@ -12,9 +12,17 @@ use report::Turn;
 use report::file;
 use report::reads;
 
-// The rest of the file at the front of a buffer, as much as there is room for, and how many bytes that is; none where a read fails.
-fn rest(fd: i32, buffer: &mut [u8]) -> usize
-    ensures { λ r. ⌜ Counts r (now (buffer .exit)) ⌝ }
+// What came of reading a file into a buffer.
+pub enum Filled {
+    // so many bytes at its front: all of the file, or as many as there is room for
+    Bytes(usize),
+    // a read failed, or the file could not be opened
+    Failed,
+}
+
+// The rest of a file at the front of a buffer.
+pub fn rest(fd: i32, buffer: &mut [u8]) -> Filled
+    ensures { λ r. ⌜ Fills r (now (buffer .exit)) ⌝ }
 {
     let mut n = 0;
     let mut turns = u64::MAX;
@@ -22,28 +30,28 @@ fn rest(fd: i32, buffer: &mut [u8]) -> usize
         let got = libc::read(fd, &mut buffer[n..]);
         let what = reads::brought(got, os::errno());
         if let Brought::Nothing(_) = what {
-            return 0;
+            return Filled::Failed;
         }
         if let Brought::End = what {
-            return n;
+            return Filled::Bytes(n);
         }
         n += io::count(got, &buffer[n..]);
         turns -= 1;
     }
-    0
+    Filled::Failed
 }
 
-// The same of a file by its name; none where it cannot be opened.
-pub(crate) fn whole(name: &[u8], buffer: &mut [u8]) -> usize
-    ensures { λ r. ⌜ Counts r (now (buffer .exit)) ⌝ }
+// The same of a file by its name.
+pub fn whole(name: &[u8], buffer: &mut [u8]) -> Filled
+    ensures { λ r. ⌜ Fills r (now (buffer .exit)) ⌝ }
 {
     let fd = os::open_read(name);
     if fd < 0 {
-        return 0;
+        return Filled::Failed;
     }
-    let n = rest(fd, buffer);
+    let filled = rest(fd, buffer);
     libc::close(fd);
-    n
+    filled
 }
 
 // Takes the rest of the file, piece by piece.
@@ -63,7 +71,7 @@ fn pieces(fd: i32, table: &mut [u64]) -> Ending
 }
 
 // Leads a file through the bay of the table, in the list's edition.
-pub(crate) fn through(name: &[u8], list: &[u8], table: &mut [u64]) -> Ending
+pub fn through(name: &[u8], list: &[u8], table: &mut [u64]) -> Ending
     ensures { λ r.
         ⌜ ((f : File) × Led (now (table .entry)) (editionIn (now (list .entry))) f r (now (table .exit))) ⌝ }
 {

@@ -1,12 +1,12 @@
--- `yardcheck::reading::pieces` meets its contract: each turn of the loop is one of a reading, and its measure is how many are left.
+-- `reading::pieces` meets its contract: each turn of the loop is one of a reading, and its measure is how many are left.
 use mathlib.Core.Path.{_≡_, refl}
 use lib.ListN.{length}
 use borrow.Author.Needs.{needs}
 use Rattle.report.specs.declared.Ending.{Ending}
 use Rattle.report.specs.code.Files.{Reading}
 use Rattle.report.proofs.Pieces.{starts, breaks-off, goes-on, stops}
-use Rattle.yardcheck.proofs.reading.pieces.Statement.{statement}
-use Rattle.yardcheck.proofs.reading.pieces.Tie as tie
+use Rattle.reading.proofs.pieces.Statement.{statement}
+use Rattle.reading.proofs.pieces.Tie as tie
 
 abbrev Inv-loop : tie.InvT-loop
 Inv-loop fd table₀ piece₀ turns₀ table piece turns =

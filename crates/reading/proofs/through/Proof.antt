@@ -1,10 +1,10 @@
--- `yardcheck::reading::through` meets its contract.
+-- `reading::through` meets its contract.
 use mathlib.Core.Path.{refl}
 use borrow.Author.Needs.{needs}
 use Rattle.report.specs.code.Program.{unread}
 use Rattle.report.proofs.Pieces.{led}
-use Rattle.yardcheck.proofs.reading.through.Statement.{statement}
-use Rattle.yardcheck.proofs.reading.through.Tie as tie
+use Rattle.reading.proofs.through.Statement.{statement}
+use Rattle.reading.proofs.through.Tie as tie
 
 returns-2 : tie.Need-returns-2
 returns-2 c =

@@ -1,4 +1,4 @@
--- `yardcheck::reading::rest` is safe and ends: what was read stays within the buffer, and the measure is how many turns are left.
+-- `reading::rest` is safe and ends: what was read stays within the buffer, and the measure is how many turns are left.
 use Prim.Native.Nat.{ℕ, _≤_}
 use mathlib.Core.List.{List}
 use mathlib.Core.Path.{_≡_, sym}
@@ -6,8 +6,8 @@ use lib.ListN.{length}
 use lib.Seq.{length-take-le}
 use Rattle.io.specs.Counts.{Counts}
 use borrow.Author.Needs.{needs}
-use Rattle.yardcheck.proofs.reading.rest.Statement.{statement}
-use Rattle.yardcheck.proofs.reading.rest.Tie as tie
+use Rattle.reading.proofs.rest.Statement.{statement}
+use Rattle.reading.proofs.rest.Tie as tie
 
 counts : (n : ℕ) (xs : List ℕ) → n ≤ length xs → Counts n xs
 counts n xs h = (h, sym (length-take-le n xs h))

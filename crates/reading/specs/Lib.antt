@@ -1,0 +1,2 @@
+-- What is said of a buffer that a file was read into.
+pub mod Filled

@@ -1,0 +1,2 @@
+-- What the list maker does with a file.
+pub mod Entered
