@@ -1,15 +1,9 @@
 //! Dwombarine against plain Rust on the same 16 MiB, turn and turn about in one process; of each the best turn counts, in processor time.
+mod clock;
 mod plain;
 
+use clock::timed;
 use std::time::Duration;
-
-#[repr(C)]
-struct Timespec {
-    seconds: i64,
-    nanoseconds: i64,
-}
-
-const CLOCK_PROCESS_CPUTIME_ID: i32 = 2;
 
 extern "C" {
     // crate capi; a slice is a pointer and a length
@@ -17,14 +11,6 @@ extern "C" {
     fn dw_lay_out(table: *mut u64, words: usize, bays: u64) -> u64;
     fn dw_open(table: *mut u64, words: usize, bay: u64, edition: u64) -> u64;
     fn dw_add(table: *mut u64, words: usize, bay: u64, piece: *const u8, count: usize) -> u64;
-    fn clock_gettime(clock: i32, time: *mut Timespec) -> i32;
-}
-
-/// The processor time that this process has used, which other processes on the machine do not add to.
-fn now() -> Duration {
-    let mut time = Timespec { seconds: 0, nanoseconds: 0 };
-    assert_eq!(unsafe { clock_gettime(CLOCK_PROCESS_CPUTIME_ID, &mut time) }, 0);
-    Duration::new(time.seconds as u64, time.nanoseconds as u32)
 }
 
 fn dwombarine(edition: u64, message: &[u8], out: &mut [u8]) {
@@ -66,12 +52,6 @@ fn message(count: usize) -> Vec<u8> {
     }
     bytes.truncate(count);
     bytes
-}
-
-fn timed(work: impl FnOnce()) -> Duration {
-    let start = now();
-    work();
-    now() - start
 }
 
 /// Measures both on the same work, each `turns` times, in alternating order, and answers the best time of each.

@@ -14,15 +14,19 @@
  *   13 close     run, bay, closing, bits, output         21 tree      lent map, output
  *   14 save      run, bay, output                        22 judge     lent list, lent name, lent digest
  *   15 load      run, bay, lent record                   23 lookup    lent list, lent name
+ *   24 start     edition, buffer                         25 put       buffer, lent name, lent digest
  *
  * A run is the place of its first word and its count of words. Lent is a count n and n bytes; but more than FAR bytes do not follow: the
  * call is lent n zeros then. Output is a count of at most OUTPUT bytes and a number f: counted from the beginning of the guard before it,
- * byte i of the output and its guards is (f + i) mod 256 before the call. Lent bytes and outputs lie anywhere: the first of a call s mod 16
- * bytes past a multiple of 16, where s is the number of shifts, the second s / 16 mod 16, and so on.
+ * byte i of the output and its guards is (f + i) mod 256 before the call. A buffer, which is read and written, is a count n and n bytes;
+ * but of more than BUFFER bytes only BUFFER follow: behind these the buffer has the bytes of a guard, and zeros. The count KEPT is for the
+ * buffer of a call before in this batch, as it was left and where it lies. Lent bytes, outputs and buffers lie anywhere: the first of a
+ * call s mod 16 bytes past a multiple of 16, where s is the number of shifts, the second s / 16 mod 16, and so on.
  *
  * The answer to a call is its number; for ask and lookup their two values; for a call with an output the GUARD bytes before it, the output
- * and the GUARD bytes after it; the count of bytes lent to be read, with the guards about them, that are not as they were; and the count of
- * words of the memory that are not as they were before the call, each with its place and its value.
+ * and the GUARD bytes after it, and for one with a buffer likewise, but at most BUFFER of its bytes; the count of bytes lent to be read,
+ * with the guards about them, that are not as they were; and the count of words of the memory that are not as they were before the call,
+ * each with its place and its value.
  *
  * A command that cannot be done ends the driver with status 3: then the sender is at fault.
  */
@@ -33,9 +37,12 @@ long write(int file, const void *from, size_t n);
 void *memcpy(void *to, const void *from, size_t n);
 int memcmp(const void *a, const void *b, size_t n);
 void *mmap(void *at, size_t n, int access, int kind, int file, long offset);
+int mprotect(void *at, size_t n, int access);
 _Noreturn void _exit(int status);
 
-enum { WORDS = 4096, GUARD = 64, OUTPUT = 1024, FAR = 2 << 20, BATCH = 32 << 20, ANSWERS = 32 << 20, LENT = 3, ALIGNED = 16 };
+enum { WORDS = 4096, GUARD = 64, OUTPUT = 1024, BUFFER = 36 << 10, FAR = 2 << 20, BATCH = 32 << 20, ANSWERS = 32 << 20 };
+enum { LENT = 3, ALIGNED = 16 };
+#define KEPT (~(uint64_t)0)
 
 static uint8_t batch[BATCH], answers[ANSWERS];
 static const uint8_t *next, *end; /* what of the batch is still to be done */
@@ -60,6 +67,11 @@ static _Alignas(ALIGNED) uint8_t output_room[ALIGNED + GUARD + OUTPUT + GUARD];
 static uint8_t *output; /* with its guards */
 static size_t output_n;
 static int has_output;
+
+static _Alignas(ALIGNED) uint8_t buffer_room[ALIGNED + GUARD + BUFFER + GUARD];
+static uint8_t *buffer; /* with its guards; NULL where none was lent in this batch */
+static size_t buffer_n;
+static int has_buffer;
 
 static uint64_t told_edition, told_count;
 static size_t told_at, told_length;
@@ -100,17 +112,21 @@ static size_t shift(void) {
   return by;
 }
 
-/* More zeros than there is memory for. They take up none unless a call reads them, and cannot be written. */
-static const uint8_t *zeros(size_t n) {
-  enum { READ = 1, PRIVATE = 2, ANONYMOUS = 32, NORESERVE = 0x4000 };
-  static const uint8_t *at;
-  static size_t have;
-  if (n > have) {
-    at = mmap(NULL, n, READ, PRIVATE | ANONYMOUS | NORESERVE, -1, 0);
-    if (at == (void *)-1) give_up("no room for so many zeros");
-    have = n;
+/* More zeros than there is memory for. They take up none unless a call reads them, and cannot be written, but for so many at the front. */
+struct zeros {
+  uint8_t *at;
+  size_t have;
+};
+
+static uint8_t *zeros(struct zeros *these, size_t n, size_t front) {
+  enum { READ = 1, WRITE = 2, PRIVATE = 2, ANONYMOUS = 32, NORESERVE = 0x4000 };
+  if (n > these->have) {
+    these->at = mmap(NULL, n, READ, PRIVATE | ANONYMOUS | NORESERVE, -1, 0);
+    if (these->at == (void *)-1) give_up("no room for so many zeros");
+    if (front && mprotect(these->at, front, READ | WRITE) != 0) give_up("the zeros at the front cannot be written");
+    these->have = n;
   }
-  return at;
+  return these->at;
 }
 
 /* What stands before and behind bytes that are lent: no two of these are alike, so that bytes moved within a guard are seen. */
@@ -121,9 +137,10 @@ static void make_guards(void) {
 }
 
 static const uint8_t *lend(size_t *n) {
+  static struct zeros read_only;
   *n = number();
   size_t by = shift();
-  if (*n > FAR) return zeros(by + *n) + by;
+  if (*n > FAR) return zeros(&read_only, by + *n, 0) + by;
   uint8_t *place = lent[lents].place = lent[lents].room + by;
   const uint8_t *from = lent[lents].from = take(*n);
   lent[lents].n = *n;
@@ -162,6 +179,26 @@ static uint8_t *lend_output(size_t *n) {
   for (size_t i = 0; i < GUARD + output_n + GUARD; i++) output[i] = (uint8_t)(first + i);
   has_output = 1;
   return output + GUARD;
+}
+
+/* The bytes of the buffer that are sent and answered. */
+static size_t buffer_front(void) { return buffer_n < BUFFER ? buffer_n : BUFFER; }
+
+static uint8_t *lend_buffer(size_t *n) {
+  static struct zeros far;
+  uint64_t count = number();
+  size_t by = shift();
+  if (count != KEPT) {
+    buffer_n = count;
+    buffer = (buffer_n > BUFFER ? zeros(&far, ALIGNED + GUARD + buffer_n + GUARD, sizeof buffer_room) : buffer_room) + by;
+    memcpy(buffer, guards, GUARD);
+    memcpy(buffer + GUARD, take(buffer_front()), buffer_front());
+    memcpy(buffer + GUARD + buffer_front(), guards + GUARD, GUARD);
+  }
+  if (!buffer) give_up("no buffer is kept");
+  has_buffer = 1;
+  *n = buffer_n;
+  return buffer + GUARD;
 }
 
 static uint64_t *lend_run(size_t *n) {
@@ -226,6 +263,16 @@ static uint64_t call_at_once(uint8_t which) {
       const uint8_t *list = lend(&n), *name = lend(&name_n);
       return dw_lookup(list, n, name, name_n, &told_at, &told_length);
     }
+    case 24: {
+      uint64_t edition = number();
+      uint8_t *list = lend_buffer(&n);
+      return dw_list_start(edition, list, n);
+    }
+    case 25: {
+      uint8_t *list = lend_buffer(&n);
+      const uint8_t *name = lend(&name_n), *digest = lend(&digest_n);
+      return dw_list_put(list, n, name, name_n, digest, digest_n);
+    }
     default: give_up("no such command");
   }
 }
@@ -243,7 +290,7 @@ static void answer_words_changed(void) {
 }
 
 static void call(uint8_t which) {
-  lents = has_output = 0;
+  lents = has_output = has_buffer = 0;
   shifts = number();
   told_edition = told_count = told_at = told_length = 0x5a5a5a5a5a5a5a5a;
   answer_number(which < 20 ? call_on_table(which) : call_at_once(which));
@@ -256,6 +303,7 @@ static void call(uint8_t which) {
     answer_number(told_length);
   }
   if (has_output) answer(output, GUARD + output_n + GUARD);
+  if (has_buffer) answer(buffer, GUARD + buffer_front() + GUARD);
   answer_number(lent_changed());
   answer_words_changed();
 }
@@ -309,6 +357,7 @@ int main(void) {
     next = batch;
     end = batch + n;
     answered = 0;
+    buffer = NULL;
     while (next < end) command(*take(1));
     n = answered;
     send(&n, 8);

@@ -14,12 +14,14 @@ from pathlib import Path
 ROOT = Path(__file__).resolve().parents[2]
 GUARD, GUARD_WORDS = 64, 64  # bytes before and after an output, words before and after the run
 FAR = 2 << 20  # more bytes than this are sent as their count
+BUFFER = 36 << 10  # bytes of a buffer that are sent and answered
 ALIGNED = 16  # bytes are lent up to so many past a multiple of it
 BATCH = 4 << 20  # bytes of commands and replies after which a batch is sent; the driver has room for far more of either
 PATTERN = bytes(range(256)) * 8
+GUARDS = bytes((0xA7 + 29 * i) % 256 for i in range(2 * GUARD))  # what stands before and behind a buffer
 PATIENCE, SHORT_PATIENCE = 60, 5  # seconds for a batch, and once one has taken longer
 GAVE_UP = 3  # the driver's status when a command cannot be done
-MOST_SHOWN = 10  # failures
+MOST_SHOWN, MOST_OF_ONE = 10, 3  # failures, and the calls of one that are shown
 
 SIGNATURES = {
     "lay_out": (10, ("words", "bays")),
@@ -34,6 +36,8 @@ SIGNATURES = {
     "tree": (21, ("map", "out")),
     "judge": (22, ("list", "name", "digest")),
     "lookup": (23, ("list", "name")),
+    "list_start": (24, ("edition", "buffer")),
+    "list_put": (25, ("buffer", "name", "digest")),
 }
 LENT = {"piece", "record", "message", "map", "list", "name", "digest"}
 TELLING = {"ask": ("edition", "count"), "lookup": ("at", "len")}
@@ -41,10 +45,17 @@ TELLING = {"ask": ("edition", "count"), "lookup": ("at", "len")}
 number, two_numbers = struct.Struct("<Q").pack, struct.Struct("<QQ").pack
 NOTHING = number(0)
 
+# what a buffer may be instead of bytes: the one of n bytes that a call before in the same case had, as it was left; and one of n bytes,
+# more than BUFFER, of which these BUFFER bytes are the front
+Kept = namedtuple("Kept", "n")
+Far = namedtuple("Far", "n front")
+KEPT = 2**64 - 1
+
 
 class Call(namedtuple("Call", "name args shifts")):
-    """One call: an output is its count of bytes and the first byte of its pattern; what is lent is bytes, or a count of zeros past FAR.
-    How far the bytes and the output lie past a multiple of ALIGNED are the digits of `shifts`, the lowest first."""
+    """One call: an output is its count of bytes and the first byte of its pattern; a buffer is bytes, Kept or Far; what else is lent is
+    bytes, or a count of zeros past FAR. How far the bytes and the output lie past a multiple of ALIGNED are the digits of `shifts`, the
+    lowest first."""
 
     __slots__ = ()
 
@@ -53,7 +64,7 @@ class Call(namedtuple("Call", "name args shifts")):
 
     def alignments(self):
         """Each field of bytes and how far it lies past a multiple of ALIGNED."""
-        lent = (field for field in SIGNATURES[self.name][1] if field in LENT or field == "out")
+        lent = (field for field in SIGNATURES[self.name][1] if field in LENT or field in ("out", "buffer"))
         return {field: self.shifts // ALIGNED**i % ALIGNED for i, field in enumerate(lent)}
 
     def packed(self):
@@ -66,6 +77,8 @@ class Call(namedtuple("Call", "name args shifts")):
                 parts.append(two_numbers(GUARD_WORDS, value))
             elif field == "out":
                 parts.append(two_numbers(*value))
+            elif field == "buffer":
+                parts += (number(KEPT),) if isinstance(value, Kept) else (number(buffer_size(value)), getattr(value, "front", value))
             else:
                 parts.append(number(value))
         return b"".join(parts)
@@ -73,9 +86,17 @@ class Call(namedtuple("Call", "name args shifts")):
     def out(self):
         return self.args[-1] if SIGNATURES[self.name][1][-1] == "out" else None
 
-    def reply(self, answer, values=(0, 0), wrote=b"", changes=NOTHING):
+    def room(self):
+        """How many bytes of an output or a buffer are answered, without the guards; None where the call has neither."""
+        fields = dict(self.fields())
+        if "buffer" in fields:
+            return min(buffer_size(fields["buffer"]), BUFFER)
+        return fields["out"][0] if "out" in fields else None
+
+    def reply(self, answer, values=(0, 0), wrote=b"", changes=NOTHING, left=b""):
         """What the driver must answer: the number, the values where the call tells some, the output with these bytes at its front and its
-        guards, no change of what was lent to be read, and the changes of words, none if the call is on no table."""
+        guards, the buffer as it is left and its guards, no change of what was lent to be read, and the changes of words, none if the call
+        is on no table."""
         parts = [number(answer)]
         if self.name in TELLING:
             parts.append(two_numbers(*values))
@@ -84,6 +105,8 @@ class Call(namedtuple("Call", "name args shifts")):
             count, fill = out
             room = PATTERN[fill : fill + GUARD + count + GUARD]
             parts.append(room[:GUARD] + wrote + room[GUARD + len(wrote) :])
+        elif "buffer" in SIGNATURES[self.name][1]:
+            parts += (GUARDS[:GUARD], left, GUARDS[GUARD:])
         parts += (NOTHING, changes)
         return b"".join(parts)
 
@@ -94,13 +117,21 @@ class Call(namedtuple("Call", "name args shifts")):
                 shown.append(f"out {value[0]} bytes")
             elif field == "closing":
                 shown.append(f"closing {value:#04x}")
+            elif isinstance(value, Kept):
+                shown.append(f"buffer of {value.n} bytes as it was left")
+            elif isinstance(value, Far):
+                shown.append(f"buffer of {short_number(value.n)} bytes, at its front {short_bytes(value.front)}")
             elif isinstance(value, int):
                 shown.append(f"{field} {short_number(value)}" + (" zeros" if field in LENT else ""))
             else:
                 shown.append(f"{field} {short_bytes(value)}")
-            if alignments.get(field):
+            if alignments.get(field) and not isinstance(value, Kept):
                 shown[-1] += f" at {alignments[field]} mod {ALIGNED}"
         return f"dw_{self.name}({', '.join(shown)})"
+
+
+def buffer_size(buffer):
+    return len(buffer) if isinstance(buffer, bytes) else buffer.n
 
 
 # ---- the driver
@@ -185,8 +216,8 @@ def read_reply(call, data, at):
     if call.name in TELLING:
         values = struct.unpack_from("<QQ", data, at)
         at += 16
-    if call.out() is not None:
-        length = GUARD + call.out()[0] + GUARD
+    if call.room() is not None:
+        length = GUARD + call.room() + GUARD
         out = data[at : at + length]
         at += length
     lent, count = struct.unpack_from("<QQ", data, at)
@@ -225,9 +256,9 @@ def tell(wanted, got):
     if wanted.out != got.out:
         places = [i for i, (a, b) in enumerate(zip(wanted.out, got.out)) if a != b]
         begin, end = places[0], places[-1] + 1
-        yield f"output of {len(wanted.out) - 2 * GUARD} bytes and the guards about it, bytes {begin - GUARD} to {end - GUARD - 1}:"
-        yield f"  expected {wanted.out[begin:end].hex()}"
-        yield f"  got      {got.out[begin:end].hex()}"
+        yield f"the {len(wanted.out) - 2 * GUARD} bytes lent to write and their guards, bytes {begin - GUARD} to {end - GUARD - 1}:"
+        yield f"  expected {short_bytes(wanted.out[begin:end])}"
+        yield f"  got      {short_bytes(got.out[begin:end])}"
     if got.lent:
         yield f"{got.lent} bytes of what was lent to be read have changed"
     if wanted.changed != got.changed:
@@ -297,7 +328,8 @@ class Comparison:
         for case in cases:
             faults = [(str(call), *what) for call, wanted in case if (what := answers.differ(call, wanted))]
             if faults:
-                self.fail(*(line for fault in faults for line in fault))
+                more = [f"and {len(faults) - MOST_OF_ONE} calls more"] if len(faults) > MOST_OF_ONE else []
+                self.fail(*(line for fault in faults[:MOST_OF_ONE] for line in fault), *more)
             else:
                 self.passed += 1
         if answers.rest():

@@ -250,7 +250,7 @@ def a_checkout(rt):
     already as $PROGRAM."""
     with a_yard() as above:
         checkout = above / "checkout"
-        for part in ("bin/yardcheck", "tests/kit/tools", "VERSION"):
+        for part in ("bin/yardcheck", "bin/common.sh", "tests/kit/tools", "VERSION"):
             (checkout / part).parent.mkdir(parents=True, exist_ok=True)
             shutil.copy(root / part, checkout / part)
         (checkout / "crates").mkdir()

@@ -21,6 +21,7 @@ static void expect(const char *what, uint64_t number, enum dw_answer answer)
 /* The sizes are constants, fit to be an array's. */
 static uint64_t table[WORDS];
 static uint8_t longest[DW_LONGEST_RECORD], message[MOST], digest[DW_DIGEST_BYTES(DW_SHA512)], small[DW_DIGEST_BYTES(DW_SHA224)];
+static uint8_t list[DW_LONGEST_LIST];
 typedef char same_size[DW_TABLE_BYTES(2) == sizeof table ? 1 : -1];
 
 /* A record finds room in as many bytes as the macro says, in no fewer, and says itself that it has so many. */
@@ -45,6 +46,51 @@ static void records(uint64_t edition)
     }
 }
 
+/* The list of two names in SPEC's samples, in a buffer that it fills, the second name put in first or not; a byte less is too little. */
+static void lists(int second_first)
+{
+    static const char *const names[] = {"fleet.cfg", "yard.map"}, *const texts[] = {"abc", ""};
+    enum { WHOLE = 113 };
+    uint8_t listed[DW_DIGEST_BYTES(DW_SHA256)] = {0};
+    char plain[16];
+    signed char low[16];
+    size_t k, at, len;
+    int turn;
+    memset(list, 0xee, sizeof list);
+    expect("start in 15 bytes", dw_list_start(DW_SHA256, list, 15), DW_SHORT_OUTPUT);
+    expect("start in edition 7", dw_list_start(7, list, 16), DW_NO_SUCH_EDITION);
+    expect("put where no list is", dw_list_put(list, WHOLE, message, 1, listed, sizeof listed), DW_NOT_A_LIST);
+    expect("start", dw_list_start(DW_SHA256, list, 16), DW_DONE);
+    if (DW_LIST_BYTES(list) != 16)
+        wrong = 1;
+    for (turn = 0; turn < 2; turn++) {
+        int which = second_first ? 1 - turn : turn;
+        const uint8_t *name = (const uint8_t *)names[which];
+        size_t n = strlen(names[which]);
+        expect("hash", dw_hash(DW_SHA256, (const uint8_t *)texts[which], strlen(texts[which]), 0, 0, listed, sizeof listed), DW_DONE);
+        expect("put a name with a blank", dw_list_put(list, WHOLE, (const uint8_t *)"a b", 3, listed, sizeof listed), DW_FORBIDDEN_NAME);
+        expect("put a digest of 28 bytes", dw_list_put(list, WHOLE, name, n, listed, 28), DW_DIGEST_DIFFERS);
+        if (turn == 1)
+            expect("put in a byte less", dw_list_put(list, WHOLE - 1, name, n, listed, sizeof listed), DW_SHORT_OUTPUT);
+        expect("put", dw_list_put(list, WHOLE, name, n, listed, sizeof listed), DW_DONE);
+        expect("put again", dw_list_put(list, WHOLE, name, n, listed, sizeof listed), DW_NAME_TAKEN);
+        expect("judge by it", dw_judge(list, DW_LIST_BYTES(list), name, n, listed, sizeof listed), DW_DONE);
+    }
+    expect("look it up", dw_lookup(list, DW_LIST_BYTES(list), (const uint8_t *)names[0], strlen(names[0]), &at, &len), DW_DONE);
+    if (DW_LIST_BYTES(list) != WHOLE || list[WHOLE] != 0xee || at != 24 || len != sizeof listed)
+        wrong = 1;
+    /* of a buffer of plain char, and of one whose bytes are below 0 on every machine: 0x80a0c0ff is 2158018815 */
+    memset(plain, 0, sizeof plain);
+    memcpy(plain + 12, "\x80\xa0\xc0\xff", 4);
+    memcpy(low, plain, sizeof low);
+    if (DW_LIST_BYTES(plain) != 2158018815 || DW_LIST_BYTES(low) != 2158018815)
+        wrong = 1;
+    printf("list ");
+    for (k = 0; k < DW_LIST_BYTES(list); k++)
+        printf("%02x", list[k]);
+    printf("\n");
+}
+
 int main(void)
 {
     const uint8_t *nothing = (const uint8_t *)"";
@@ -52,7 +98,7 @@ int main(void)
     size_t k, at, len;
 
     printf("version %s\n", DW_VERSION);
-    for (i = 0; i < 17; i++)
+    for (i = 0; i < 20; i++)
         printf("answer %" PRIu64 " %s\n", i, dw_answer_text(i));
     printf("answer 2^64-1 %s\n", dw_answer_text(UINT64_MAX));
 #define NAME(name) printf("name %s %d\n", #name, (int)name)
@@ -71,6 +117,9 @@ int main(void)
     NAME(DW_NOT_A_LIST);
     NAME(DW_NOT_LISTED);
     NAME(DW_DIGEST_DIFFERS);
+    NAME(DW_FORBIDDEN_NAME);
+    NAME(DW_NAME_TAKEN);
+    NAME(DW_LIST_FULL);
     NAME(DW_SHA224);
     NAME(DW_SHA256);
     NAME(DW_SHA384);
@@ -80,7 +129,7 @@ int main(void)
     for (i = 0; i < 8; i++)
         printf("edition %" PRIu64 " %d\n", i, DW_DIGEST_BYTES(i));
     printf("table %d %d\n", DW_TABLE_WORDS(1), DW_TABLE_WORDS(64));
-    printf("longest %d %d\n", DW_LONGEST_DIGEST, DW_LONGEST_RECORD);
+    printf("longest %d %d %d\n", DW_LONGEST_DIGEST, DW_LONGEST_RECORD, DW_LONGEST_LIST);
 
     memset(message, 'm', sizeof message);
     for (i = 1; i <= 6; i++)
@@ -102,5 +151,7 @@ int main(void)
     for (k = 0; k < sizeof digest; k++)
         printf("%02x", digest[k]);
     printf("\n");
+    lists(0);
+    lists(1);
     return wrong || sizeof(same_size) != 1;
 }

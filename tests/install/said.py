@@ -2,6 +2,7 @@
 status is 1 where there is one."""
 import hashlib
 import re
+import struct
 import sys
 from pathlib import Path
 
@@ -27,8 +28,8 @@ def camel(name):
 
 expected = [f"version {(root / 'VERSION').read_text().strip()}"]
 texts = {int(row[0]): row[1] for row in rows("## Calls and their numbers", "no. |")}
-assert sorted(texts) == list(range(15))
-expected += [f"answer {n} {texts.get(n, 'no such answer')}" for n in range(17)] + ["answer 2^64-1 no such answer"]
+assert sorted(texts) == list(range(18))
+expected += [f"answer {n} {texts.get(n, 'no such answer')}" for n in range(20)] + ["answer 2^64-1 no such answer"]
 answers = (root / "crates/answers/src/lib.rt").read_text(encoding="utf-8")
 expected += [f"name DW_{camel(name)} {n}" for name, n in re.findall(r"Answer::(\w+) => (\d+),", answers)]
 editions = rows("## Editions", "no. |")
@@ -38,8 +39,12 @@ expected += [f"edition {n} {sizes.get(n, 0)}" for n in range(8)]
 words = next(row[1] for row in rows("## Limits", "what |") if row[0].startswith("words of a table"))
 expected += ["table {} {}".format(*(n.replace(",", "") for n in re.search(r"([\d,]+) for one bay, ([\d,]+) for 64", words).groups()))]
 record = next(row[2] for row in rows("## Limits", "what |") if row[0].startswith("bytes of a record"))
-expected += [f"longest {max(sizes.values())} " + max(re.findall(r"\d+(?= \()", record), key=int)]
+whole = next(row[2] for row in rows("## Limits", "what |") if row[0].startswith("bytes of a list")).split()[0].replace(",", "")
+expected += [f"longest {max(sizes.values())} " + max(re.findall(r"\d+(?= \()", record), key=int) + f" {whole}"]
 expected += ["digest " + hashlib.sha512(b"m" * 300).hexdigest()]
+entries = struct.pack(">II", 96, 9) + hashlib.sha256(b"abc").digest() + struct.pack(">II", 105, 8) + hashlib.sha256(b"").digest()
+listed = struct.pack(">HHIII", 2, 2, 16, 96, 113) + entries + b"fleet.cfg" + b"yard.map"
+expected += [f"list {listed.hex()}"] * 2
 
 said = Path(sys.argv[1]).read_text().splitlines()
 faults = [f"not said: {line}" for line in expected if line not in said] + [f"said: {line}" for line in said if line not in expected]

@@ -1,56 +1,18 @@
-"""Digest lists through the C interface, against the rules of SPEC, "Digest list", written here: tests/lists/run runs it.
+"""Digest lists through the C interface, against the rules of SPEC, "Digest list", in tests/driver/lists.py: tests/lists/run runs it.
 
-Lists are written here from names and digests. The reader here takes the fields out, writes the list again from them and compares.
 Lists of every edition and of 0 to 256 entries, names and digests that are listed, near ones and others; one list of each edition with
 every byte damaged to every other value, a longer one with every byte damaged once, and each cut short and made longer.
 """
 import os
 import random
-import struct
 import sys
 from collections import Counter
 
 from driver import ALIGNED, Call, compare
-
-SIZES = {1: 28, 2: 32, 3: 48, 4: 64, 5: 28, 6: 32}
-LETTERS = bytes(range(0x21, 0x7F))
+from lists import SIZES, read, some_entries, some_name, write
 
 seed = int(os.environ.get("SEED") or random.SystemRandom().randrange(2**32))
 rng = random.Random(seed)
-
-
-def write(edition, entries):
-    """SPEC, "Digest list", from pairs of a name and a digest, in this order."""
-    d = SIZES[edition]
-    names = 16 + len(entries) * (8 + d)
-    rows, place = b"", names
-    for name, digest in entries:
-        rows += struct.pack(">II", place, len(name)) + digest
-        place += len(name)
-    return struct.pack(">HHIII", edition, len(entries), 16, names, place) + rows + b"".join(name for name, _ in entries)
-
-
-def read(data):
-    """The pairs of a list, or None. Only a list is what its own pairs are written as."""
-    if len(data) < 16:
-        return None
-    edition, n = struct.unpack(">HH", data[:4])
-    if edition not in SIZES or n > 256:
-        return None
-    d = SIZES[edition]
-    entries = []
-    for i in range(n):
-        row = data[16 + i * (8 + d) : 16 + (i + 1) * (8 + d)]
-        if len(row) < 8 + d:
-            return None
-        place, count = struct.unpack(">II", row[:8])
-        entries.append((data[place : place + count], row[8:]))
-    names = [name for name, _ in entries]
-    if any(not 1 <= len(name) <= 64 or name.translate(None, LETTERS) for name in names):
-        return None
-    if any(a >= b for a, b in zip(names, names[1:])):
-        return None
-    return entries if write(edition, entries) == data else None
 
 
 def expected(data, name, digest):
@@ -65,19 +27,6 @@ def expected(data, name, digest):
     return 13, 13, (0, 0)
 
 
-def some_name(longest=64):
-    return bytes(rng.choices(LETTERS, k=rng.randint(1, longest)))
-
-
-def some_entries(edition, n, longest=64):
-    names = set()
-    while len(names) < n:
-        names.add(some_name(longest))
-        if names and len(names) < n and rng.random() < 0.3:  # one that another is the beginning of
-            names.add((rng.choice(sorted(names)) + some_name(3))[:64])
-    return [(name, rng.randbytes(SIZES[edition])) for name in sorted(names)]
-
-
 def questions(data, entries):
     """A list that is held to a listed name, to names near it, and to digests near its own."""
     name, digest = rng.choice(entries) if entries else (b"fleet.cfg", bytes(32))
@@ -89,7 +38,7 @@ def questions(data, entries):
     yield data, name, digest[:-1] + bytes([digest[-1] ^ 0x80])
     yield data, name[:-1], digest
     yield data, name + b"!", digest
-    yield data, some_name(), digest
+    yield data, some_name(rng), digest
     yield data, b"", b""
     for name, digest in entries[:1] + entries[-1:]:
         yield data, name, digest
@@ -98,13 +47,13 @@ def questions(data, entries):
 def cases():
     for edition in SIZES:
         for n in (0, 1, 2, 3, 7, 16, 100, 255, 256):
-            entries = some_entries(edition, n, rng.choice((4, 20, 64)))
+            entries = some_entries(rng, edition, n, rng.choice((4, 20, 64)))
             yield from questions(write(edition, entries), entries)
         # the longest list of the edition
         entries = [(b"%03d" % i + bytes([0x7E]) * 61, rng.randbytes(SIZES[edition])) for i in range(256)]
         yield from questions(write(edition, entries), entries)
     # one entry too many, no such edition, names out of order, a name twice, a blank and a byte above 7e, no name and one of 65 bytes
-    yield from questions(write(2, entries_257 := some_entries(2, 257, 20)), entries_257)
+    yield from questions(write(2, entries_257 := some_entries(rng, 2, 257, 20)), entries_257)
     for wrong in (b"\0\0", b"\0\x07", b"\x02\0"):
         yield wrong + write(2, [(b"a", bytes(32))])[2:], b"a", bytes(32)
     alone = ([b"a b"], [b"a\x7f"], [b"\x20"], [b""], [b"a" * 65])
@@ -112,14 +61,14 @@ def cases():
         yield write(2, [(name, bytes(32)) for name in names]), names[0], bytes(32)
     # every byte of a list of each edition, damaged to every other value
     for edition in SIZES:
-        entries = some_entries(edition, 2, 5)
+        entries = some_entries(rng, edition, 2, 5)
         data = write(edition, entries)
         for i in range(len(data)):
             name, digest = rng.choice(entries)
             for value in range(256):
                 if value != data[i]:
                     yield data[:i] + bytes([value]) + data[i + 1 :], name, digest
-    entries = some_entries(2, 40, 30)
+    entries = some_entries(rng, 2, 40, 30)
     data = write(2, entries)
     for i in range(len(data)):
         name, digest = rng.choice(entries)

@@ -57,7 +57,7 @@ static size_t taken(void (*prepare)(void), void (*use)(void))
 /* The values of a use, which prepare sets up and the calls read. */
 static uint64_t u_edition, u_bits, u_bay;
 static uint8_t u_closing;
-static size_t u_n, u_out;
+static size_t u_n, u_out, u_names;
 
 static void fill(void)
 {
@@ -98,6 +98,8 @@ static void use_drop(void) { number = dw_drop(table, WORDS, u_bay); }
 static void use_tree(void) { number = dw_tree(map, u_n, out, u_out); }
 static void use_judge(void) { number = dw_judge(list, list_n, list + list_n - 3, 3, list + 24, u_n); }
 static void use_lookup(void) { number = dw_lookup(list, list_n, list + list_n - 3, 3, &at, &len); }
+static void use_list_start(void) { number = dw_list_start(u_edition, list, u_out); }
+static void use_list_put(void) { number = dw_list_put(list, list_n + u_out, (const uint8_t *)"12x", 3, map, u_n); }
 
 /* A number of so many bytes, most significant first. */
 static uint8_t *put(uint8_t *to, int bytes, size_t value)
@@ -107,18 +109,18 @@ static uint8_t *put(uint8_t *to, int bytes, size_t value)
     return to + bytes;
 }
 
-/* A digest list of 256 names of three digits. */
+/* A digest list of names of three digits, up to 256. */
 static void make_list(void)
 {
-    enum { NAMES = 256, NAME = 3 };
-    size_t digest = DW_DIGEST_BYTES(u_edition), names = 16 + NAMES * (8 + digest);
-    uint8_t *to = put(put(put(put(put(list, 2, u_edition), 2, NAMES), 4, 16), 4, names), 4, names + NAMES * NAME);
-    for (size_t i = 0; i < NAMES; i++) {
+    enum { NAME = 3 };
+    size_t digest = DW_DIGEST_BYTES(u_edition), names = 16 + u_names * (8 + digest);
+    uint8_t *to = put(put(put(put(put(list, 2, u_edition), 2, u_names), 4, 16), 4, names), 4, names + u_names * NAME);
+    for (size_t i = 0; i < u_names; i++) {
         to = put(put(to, 4, names + NAME * i), 4, NAME);
         memset(to, (int)i, digest);
         to += digest;
     }
-    for (size_t i = 0; i < NAMES; i++) {
+    for (size_t i = 0; i < u_names; i++) {
         *to++ = (uint8_t)('0' + i / 100);
         *to++ = (uint8_t)('0' + i / 10 % 10);
         *to++ = (uint8_t)('0' + i % 10);
@@ -126,9 +128,9 @@ static void make_list(void)
     list_n = (size_t)(to - list);
 }
 
-enum { HASH, LAY_OUT, OPEN, ADD, CLOSE, SAVE, LOAD, ASK, DROP, TREE, JUDGE, LOOKUP, CALLS };
-static const char *const names[CALLS] = {"hash", "lay_out", "open", "add",  "close", "save",
-                                         "load", "ask",     "drop", "tree", "judge", "lookup"};
+enum { HASH, LAY_OUT, OPEN, ADD, CLOSE, SAVE, LOAD, ASK, DROP, TREE, JUDGE, LOOKUP, LIST_START, LIST_PUT, CALLS };
+static const char *const names[CALLS] = {"hash", "lay_out", "open", "add",   "close",  "save",       "load",
+                                         "ask",  "drop",    "tree", "judge", "lookup", "list_start", "list_put"};
 static size_t most[CALLS];
 static uint64_t done[CALLS], refused[CALLS];
 
@@ -161,6 +163,7 @@ int main(void)
                 u_out = wrong == 2 ? 5 : sizeof out;
                 measure(HASH, nothing, use_hash);
                 measure(OPEN, empty_table, use_open);
+                measure(LIST_START, nothing, use_list_start);
                 if (u_edition > 6)
                     continue;
                 for (size_t k = 0; k < sizeof sizes / sizeof *sizes; k += 4) {
@@ -172,12 +175,15 @@ int main(void)
                     measure(ASK, half_table, use_ask);
                     measure(DROP, half_table, use_drop);
                 }
+                u_names = 256;
                 make_list();
                 list[14] ^= (uint8_t)(wrong == 2);
                 u_n = wrong == 1 ? 5 : (size_t)DW_DIGEST_BYTES(u_edition);
                 memset(list + 24, 255, u_n);
                 measure(JUDGE, nothing, use_judge);
                 measure(LOOKUP, nothing, use_lookup);
+                u_names = 255;
+                measure(LIST_PUT, make_list, use_list_put);
             }
     measure(LAY_OUT, nothing, use_lay_out);
     for (u_n = 0; u_n <= MAP + 1; u_n = u_n < 4 ? u_n + 1 : u_n < MAP ? u_n * 2 : u_n + 1)

@@ -27,7 +27,7 @@ def count(good, title, *more):
 def run(words, timeout=120, **how):
     """Standard output (nothing, where `how` has another file for it), exit status and standard error of a command; a status of None where
     it did not end."""
-    how = {"stdin": subprocess.DEVNULL, "stdout": subprocess.PIPE, "stderr": subprocess.PIPE, **how}
+    how = {**({} if "input" in how else {"stdin": subprocess.DEVNULL}), "stdout": subprocess.PIPE, "stderr": subprocess.PIPE, **how}
     try:
         ran = subprocess.run(words, timeout=timeout, **how)
         return ran.stdout or b"", ran.returncode, ran.stderr or b""

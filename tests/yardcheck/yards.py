@@ -15,8 +15,6 @@ from habits import of_habits
 from yard import PLAIN, changed, full_names, longer, rng, seed, shorter, some_files, spoilt
 from yard import command, compare, count, finish, put, root, run, run_unheard, unprivileged, yard
 
-yardlist = str(root / "tools/yardlist")
-
 
 def of_every_edition():
     for edition in EDITIONS:
@@ -187,13 +185,6 @@ def without_permission():
     yard("a file and a folder without permission", data, {b"a": b"content", b"z": b"content"}, make, words=words)
     yard("yard.man without permission", None, {b"a": b"content"}, shut_list, words=words)
 
-    with tempfile.TemporaryDirectory() as above:
-        path = os.fsencode(above)
-        make(path)
-        out, status, said = run([*words, yardlist, path])
-        count((out, status) == (b"", 1) and b"shut" in said, "yardlist refuses a file without permission", said)
-        count(not os.path.exists(os.path.join(path, b"yard.man")), "and writes nothing")
-
 
 def of_list_lengths():
     names = full_names(256)
@@ -327,61 +318,6 @@ def of_any_kind():
         yard(f"random yard {turn}, edition {edition}, {len(files)} files", data, {**reads, **unlisted})
 
 
-def of_yardlist():
-    """Lists that tools/yardlist makes are the ones written here, and the program takes them; a refusal leaves the folder as it was."""
-    for edition in EDITIONS:
-        files = some_files(rng.choice((0, 1, 30, 256)))
-        ran = []
-
-        def make(path):
-            os.makedirs(os.path.join(path, b"sub"))
-            for name, content in {**files, b"sub/file": b"not listed", b"yard.man": b"an old list"}.items():
-                put(path, name, content)
-            ran.append(run([yardlist, path, str(edition)]))
-            with open(os.path.join(path, b"yard.man"), "rb") as made:
-                ran.append(made.read())
-
-        yard(f"edition {edition}, a list by yardlist", list_of(edition, files), files, make)
-        count(ran[1] == list_of(edition, files), f"yardlist, edition {edition}, {len(files)} files", *map(str, ran))
-        count(ran[0][1] == 0 and ran[0][0].count(b"\n") == 1, f"yardlist, edition {edition}, says one line", str(ran[0]))
-    kinds = {
-        "a name of 65 bytes": {b"n" * 65: b""},
-        "a blank in a name": {b"a b": b""},
-        "a byte 7f in a name": {b"a\x7f": b""},
-        "a byte ff in a name": {b"\xff": b""},
-        "257 files": {b"%03d" % i: b"" for i in range(257)},
-    }
-    for title, files in kinds.items():
-        for old in (None, b"an old list"):
-            with tempfile.TemporaryDirectory() as above:
-                path = os.fsencode(above)
-                there = dict(files) if old is None else {**files, b"yard.man": old}
-                for name, content in there.items():
-                    put(path, name, content)
-                out, status, said = run([yardlist, path])
-                same = sorted(os.listdir(path)) == sorted(there) and (old is None or Path(above, "yard.man").read_bytes() == old)
-                count((out, status) == (b"", 1) and said and same, f"yardlist refuses {title}", str((out, status, said)))
-    for words in (["no/such/folder"], ["crates.txt"], ["include", "0"], ["include", "7"], ["include", "x"], ["include", "2", "3"]):
-        out, status, said = run([yardlist, *words], cwd=root)
-        count((out, status) == (b"", 1) and said, f"yardlist refuses {words[-1]}", str((out, status, said)))
-    # files there can be opened and not read
-    out, status, said = run([yardlist, "/proc/self"])
-    named = said.startswith(b"yardlist: /proc/self/") and b"yard.man" not in said
-    count((out, status) == (b"", 1) and named, "yardlist names the file that cannot be read", str((out, status, said)))
-    with tempfile.TemporaryDirectory() as above:
-        files = some_files(3)
-        path = os.path.join(os.fsencode(above), rb"a\x62")
-        for name, content in files.items():
-            put(path, name, content)
-        for kind, (out, status, said) in run_unheard([yardlist, path]):
-            made = Path(os.fsdecode(path), "yard.man")
-            told = (out, status) == (b"", 2) and b"is written" in said
-            count(told and made.read_bytes() == list_of(2, files), f"yardlist, standard output is {kind}", str((out, status, said)))
-            made.unlink()
-        said = run([yardlist, path])[0]
-        count(rb"/a\x5cx62/yard.man: " in said, "yardlist shows a backslash as what it is", str(said))
-
-
 def refused(title, ran, told=b""):
     """Status 3, nothing that could be taken for a result, and why on standard error."""
     out, status, said = ran
@@ -471,7 +407,6 @@ if built:
     of_forbidden_names()
     of_every_byte()
     of_any_kind()
-    of_yardlist()
     # another command is given a folder and no more
     if not os.environ.get("YARDCHECK"):
         of_the_sample_yard()
