@@ -1,5 +1,5 @@
 -- A name as text in which nothing can be taken for something else: `shown`. Each of its bytes is one that prints and no blank,
--- `shown-plain`, so a name cannot forge a line.
+-- `shown-visible`, so a name cannot forge a line.
 use Prim.Native.Nat.{ℕ, _+_, _/_, _%_}
 use mathlib.Core.Bool.{Bool, not, cond}
 use mathlib.Core.List.{List, [], _∷_, _++_}

@@ -51,7 +51,7 @@ pub fn judge(name: &[u8], before: usize) -> Step
     if !lists::names::allowed(name) {
         return Step::Refused(Reason::Byte);
     }
-    if 256 <= before {
+    if lists::MOST_ENTRIES <= before {
         return Step::Refused(Reason::Full);
     }
     Step::Done
