@@ -12,7 +12,7 @@ use lib.Seq.{drop-cons, drop-drop, take-all, take-append-seam, drop-append-add, 
 use borrow.Author.Tests.{eq-eqb, ne-eqb, not-true}
 use Rattle.slices.specs.Tests.{every}
 use Rattle.slices.proofs.Tests.{cond-both}
-use Rattle.listing.specs.Names.{ending, withoutZero, beforeZero, behindZero, isZero, nameIn, zeros, ended}
+use Rattle.listing.specs.Names.{ending, withoutZero, beforeZero, behindZero, isZero, nameIn, namesFrom, namePlace, zeros, ended}
 
 -- ---- the loops: what is left from i decides
 
@@ -68,13 +68,22 @@ pub name-turn : (left m : ℕ) (bs rest : List ℕ) → left ≡ suc m → rest 
 unfolding nameIn
 name-turn left m bs rest h e = rw (h, e)
 
+pub from-turn : (left m : ℕ) (bs rest : List ℕ) → left ≡ suc m → rest ≡ behindZero bs → namesFrom left bs ≡ namesFrom m rest
+unfolding namesFrom
+from-turn left m bs rest h e = rw (h, e)
+
 -- the name at a place, which is the one of number i in all
 pub name-here : (bs : List ℕ) (i at left n : ℕ) → left ≡ 0 → n ≡ beforeZero (take (length bs - at) (drop at bs)) →
-    nameIn i bs ≡ nameIn left (drop at bs) → take (at + n - at) (drop at bs) ≡ nameIn i bs
+    nameIn i bs ≡ nameIn left (drop at bs) → take n (drop at bs) ≡ nameIn i bs
 unfolding nameIn
-name-here bs i at left n z e h =
-    let few : at + n - at ≡ n = omega arith in
-    rw few (sym (h ∙ rw (z, e, lent bs at)))
+name-here bs i at left n z e h = sym (h ∙ rw (z, e, lent bs at))
+
+pub place-here : (bs : List ℕ) (i at left : ℕ) → left ≡ 0 → at ≤ length bs → namesFrom i bs ≡ namesFrom left (drop at bs) →
+    at ≡ namePlace i bs
+unfolding namesFrom
+place-here bs i at left z h e =
+    let rest : namesFrom i bs ≡ drop at bs = e ∙ rw z in
+    rw rest (omega (arith, length-drop at bs))
 
 -- ---- names written and read
 

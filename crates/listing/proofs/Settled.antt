@@ -4,6 +4,7 @@ use Prim.Native.Nat.{ℕ}
 use mathlib.Core.List.{List}
 use denote.Ref.{now}
 use Rattle.contracts.specs.Says.{Settles}
+use Rattle.slices.proofs.LiesAt.{lies-settled}
 use Rattle.contracts.proofs.Values.{value-settled, both-settled}
 use Rattle.listing.proofs.judge as judge
 use Rattle.listing.proofs.judge.Reads as judge-reads
@@ -31,8 +32,8 @@ answered-settled κs a r s x y = value-settled
 pub count-settled : Settles count.ended count-reads.Learnt (λ κs r x. r)
 count-settled κs a r s x y = value-settled
 
-pub name-settled : Settles name.ended name-reads.Learnt (λ κs r x. now r)
-name-settled κs a r s x y = value-settled
+pub name-settled : Settles {A = List ℕ × (ℕ × ℕ)} name.ended name-reads.Learnt (λ κs r x. (now r, r .ptr))
+name-settled κs a r s x y = lies-settled
 
 pub all-ended-settled : Settles all-ended.ended all-ended-reads.Learnt (λ κs r x. r)
 all-ended-settled κs a r s x y = value-settled

@@ -29,6 +29,14 @@ unfoldable pub nameIn : ℕ → List ℕ → List ℕ
 nameIn zero bs = take (beforeZero bs) bs
 nameIn (suc i) bs = nameIn i (behindZero bs)
 
+-- where it begins: what stands from there on is all but what stands before
+unfoldable pub namesFrom : ℕ → List ℕ → List ℕ
+namesFrom zero bs = bs
+namesFrom (suc i) bs = namesFrom i (behindZero bs)
+
+abbrev pub namePlace : ℕ → List ℕ → ℕ
+namePlace i bs = length bs - length (namesFrom i bs)
+
 -- how many names there are
 unfoldable pub isZero : ℕ → ℕ
 isZero b = cond (eqb b 0) 1 0

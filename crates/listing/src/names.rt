@@ -2,7 +2,9 @@
 ghost use mathlib.Core.Path.{_≡_};
 ghost use Prim.Native.Nat.{_≤_};
 ghost use lib.ListN.{length, drop};
-ghost use Rattle.listing.specs.Names.{beforeZero, behindZero, isZero, nameIn, zeros, ended};
+ghost use Rattle.slices.specs.Parts.{LiesAt};
+ghost use Rattle.listing.specs.Names.{beforeZero, behindZero, isZero, nameIn, namePlace, zeros, ended};
+use slices::places::part;
 
 // How many bytes stand before the first zero byte; all of them where there is none.
 fn before_zero(bytes: &[u8]) -> usize
@@ -50,9 +52,10 @@ pub fn count(input: &[u8]) -> usize
     n
 }
 
-// The name of that number, counted from 0. Behind the last one it is what no zero byte ends, and then it is empty.
+// The name of that number, counted from 0, where it stands. Behind the last one it is what no zero byte ends, and then it is empty.
 pub fn name(input: &[u8], i: usize) -> &[u8]
     ensures { λ r. ⌜ now r ≡ nameIn i (now (input .entry)) ⌝ }
+    ensures { λ r. ⌜ LiesAt r (input .entry) (namePlace i (now (input .entry))) ⌝ }
 {
     let mut at = 0;
     let mut left = i;
@@ -60,8 +63,7 @@ pub fn name(input: &[u8], i: usize) -> &[u8]
         at = behind_zero(input, at);
         left -= 1;
     }
-    let n = before_zero(&input[at..]);
-    &input[at..at + n]
+    part(input, at, before_zero(&input[at..]))
 }
 
 // Whether every name is ended.
