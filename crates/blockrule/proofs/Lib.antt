@@ -4,3 +4,4 @@ pub mod Schedule
 pub mod Rounds
 pub mod Blocks
 pub mod Parse
+pub mod Forms
