@@ -60,7 +60,7 @@
 extern "C" {
 #endif
 
-#define DW_VERSION "0.2.0"
+#define DW_VERSION "0.2.1"
 
 /* the library takes every count as 64 bits: where size_t has not so many, this does not compile */
 typedef char dw_size_t_has_64_bits[sizeof(size_t) == 8 ? 1 : -1];
