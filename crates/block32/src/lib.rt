@@ -18,14 +18,14 @@ fn add(x: u32, y: u32) -> u32
     std::num::wrapping_add_u32(x, y)
 }
 
-// y's bit where x has a one, else z's. Of the three operations two wait for x, the newest letter.
+// y's bit where x has a one, else z's: in three operations, where the standard's form has four.
 fn ch(x: u32, y: u32, z: u32) -> u32
     ensures { λ r. ⌜ r ≡ ch w32 x y z ⌝ }
 {
     z ^ (x & (y ^ z))
 }
 
-// The bit that two of the three have. Of the four operations two wait for x, the newest letter.
+// The bit that two of the three have: of the forms with four operations the fastest (docs/BENCHMARKS.md).
 fn maj(x: u32, y: u32, z: u32) -> u32
     ensures { λ r. ⌜ r ≡ maj w32 x y z ⌝ }
 {

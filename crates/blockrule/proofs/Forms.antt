@@ -1,4 +1,4 @@
--- Choice and majority in fewer operations than FIPS 180-4 §4.1.2 and §4.1.3 write them with, once over the width.
+-- Ch and Maj in fewer operations than FIPS 180-4 §4.1.2 and §4.1.3 write them with, for all words of any width.
 -- Main statements: `ch-short` and `maj-short`. Both are cases of `forms-agree`: forms with one truth table make the same words.
 use Prim.Native.Nat.{ℕ, zero, suc, _+_, _-_, _*_, _/_, _%_, _^_, _<_}
 use mathlib.Core.List.{List, [], _∷_}
@@ -57,58 +57,54 @@ zero-or-one P p q {n = zero} h = p
 zero-or-one P p q {n = suc zero} h = q
 zero-or-one P p q {n = suc (suc n)} h = absurd (omega arith)
 
-table-at : (f : Form) {x y z : ℕ} → x < 2 → y < 2 → z < 2 → makes 1 f x y z ≡ getD (table f) (x * 4 + y * 2 + z) 0
-table-at f {x} {y} {z} a b c =
-    let At : ℕ → ℕ → ℕ → Type 0 = λ x y z. makes 1 f x y z ≡ getD (table f) (x * 4 + y * 2 + z) 0 in
-    let either : (x y : ℕ) → At x y 0 → At x y 1 → At x y z = λ x y p q. zero-or-one (At x y) p q c in
-    zero-or-one (λ (x : ℕ). At x y z)
-    (zero-or-one (λ (y : ℕ). At 0 y z) (either 0 0 refl refl) (either 0 1 refl refl) b)
-    (zero-or-one (λ (y : ℕ). At 1 y z) (either 1 0 refl refl) (either 1 1 refl refl) b)
-    a
-
 bits-agree : (f g : Form) → table f ≡ table g → {x y z : ℕ} → x < 2 → y < 2 → z < 2 → makes 1 f x y z ≡ makes 1 g x y z
 bits-agree f g e {x} {y} {z} a b c =
-    table-at f a b c ∙ ap (λ (t : List ℕ). getD t (x * 4 + y * 2 + z) 0) e ∙ sym (table-at g a b c)
+    let Agree : ℕ → ℕ → ℕ → Type 0 = λ x y z. makes 1 f x y z ≡ makes 1 g x y z in
+    let row : (i : ℕ) → getD (table f) i 0 ≡ getD (table g) i 0 = λ i. ap (λ (t : List ℕ). getD t i 0) e in
+    let either : (x y : ℕ) → Agree x y 0 → Agree x y 1 → Agree x y z = λ x y p q. zero-or-one (Agree x y) p q c in
+    zero-or-one (λ (x : ℕ). Agree x y z)
+    (zero-or-one (λ (y : ℕ). Agree 0 y z) (either 0 0 (row 0) (row 1)) (either 0 1 (row 2) (row 3)) b)
+    (zero-or-one (λ (y : ℕ). Agree 1 y z) (either 1 0 (row 4) (row 5)) (either 1 1 (row 6) (row 7)) b)
+    a
 
 -- ---- a form's lowest bit is made of the lowest bits, and its others of the others
 
-lowest : (n : ℕ) → n % 2 < 2
-lowest n = mod-lt n (omega arith)
+lowest-lt : (n : ℕ) → n % 2 < 2
+lowest-lt n = mod-lt n (omega arith)
 
-others : (k : ℕ) {n : ℕ} → n < 2 ^ suc k → n / 2 < 2 ^ k
-others k {n} h = shr-lt k 1 (subst (λ (i : ℕ). n < 2 ^ i) (sym (add-one k)) h)
+others-lt : (k : ℕ) {n : ℕ} → n < 2 ^ suc k → n / 2 < 2 ^ k
+others-lt k {n} h = shr-lt k 1 (subst (λ (i : ℕ). n < 2 ^ i) (sym (add-one k)) h)
 
 complement-parts : (p q r : ℕ) → q < p → r < 2 → p * 2 - 1 - (q * 2 + r) ≡ (p - 1 - q) * 2 + (1 - r)
 complement-parts p q r h k = omega arith
 
 module _ (k : ℕ) {x y z : ℕ} (a : x < 2 ^ suc k) (b : y < 2 ^ suc k) (c : z < 2 ^ suc k) where
-  upper : (f : Form) → makes k f (x / 2) (y / 2) (z / 2) < 2 ^ k
-  upper f = makes-lt k f (others k a) (others k b) (others k c)
+  upper-lt : (f : Form) → makes k f (x / 2) (y / 2) (z / 2) < 2 ^ k
+  upper-lt f = makes-lt k f (others-lt k a) (others-lt k b) (others-lt k c)
 
-  lower : (f : Form) → makes 1 f (x % 2) (y % 2) (z % 2) < 2
-  lower f = makes-lt 1 f (lowest x) (lowest y) (lowest z)
+  lower-lt : (f : Form) → makes 1 f (x % 2) (y % 2) (z % 2) < 2
+  lower-lt f = makes-lt 1 f (lowest-lt x) (lowest-lt y) (lowest-lt z)
 
   by-bits : (f : Form) → makes (suc k) f x y z ≡ makes k f (x / 2) (y / 2) (z / 2) * 2 + makes 1 f (x % 2) (y % 2) (z % 2)
   by-bits X = sym (div-add-mod' x 2)
   by-bits Y = sym (div-add-mod' y 2)
   by-bits Z = sym (div-add-mod' z 2)
-  by-bits (not f) = ap₂ (λ (p q : ℕ). p - 1 - q) (pow-suc 2 k) (by-bits f) ∙ complement-parts (2 ^ k) _ _ (upper f) (lower f)
-  by-bits (f and g) = ap₂ bitAnd (by-bits f) (by-bits g) ∙ and-block 1 _ _ _ _ (lower f) (lower g)
-  by-bits (f or g) = ap₂ bitOr (by-bits f) (by-bits g) ∙ or-block 1 _ _ _ _ (lower f) (lower g)
-  by-bits (f xor g) = ap₂ bitXor (by-bits f) (by-bits g) ∙ xor-block 1 _ _ _ _ (lower f) (lower g)
+  by-bits (not f) = ap₂ (λ (p q : ℕ). p - 1 - q) (pow-suc 2 k) (by-bits f) ∙ complement-parts (2 ^ k) _ _ (upper-lt f) (lower-lt f)
+  by-bits (f and g) = ap₂ bitAnd (by-bits f) (by-bits g) ∙ and-block 1 _ _ _ _ (lower-lt f) (lower-lt g)
+  by-bits (f or g) = ap₂ bitOr (by-bits f) (by-bits g) ∙ or-block 1 _ _ _ _ (lower-lt f) (lower-lt g)
+  by-bits (f xor g) = ap₂ bitXor (by-bits f) (by-bits g) ∙ xor-block 1 _ _ _ _ (lower-lt f) (lower-lt g)
 
--- so one truth table, one word
 forms-agree : (f g : Form) → table f ≡ table g → (k : ℕ) {x y z : ℕ} → x < 2 ^ k → y < 2 ^ k → z < 2 ^ k
     → makes k f x y z ≡ makes k g x y z
 forms-agree f g e zero a b c = lt-one (makes-lt 0 f a b c) ∙ sym (lt-one (makes-lt 0 g a b c))
 forms-agree f g e (suc k) {x} {y} {z} a b c =
     by-bits k a b c f
     ∙ ap₂ (λ (p q : ℕ). p * 2 + q)
-    (forms-agree f g e k (others k a) (others k b) (others k c))
-    (bits-agree f g e (lowest x) (lowest y) (lowest z))
+    (forms-agree f g e k (others-lt k a) (others-lt k b) (others-lt k c))
+    (bits-agree f g e (lowest-lt x) (lowest-lt y) (lowest-lt z))
     ∙ sym (by-bits k a b c g)
 
--- ---- of all words of a width
+-- ---- the two laws
 
 module _ (p : Width) {x y z : ℕ} (a : x < 2 ^ word p) (b : y < 2 ^ word p) (c : z < 2 ^ word p) where
   pub ch-short : bitXor z (bitAnd x (bitXor y z)) ≡ ch p x y z
