@@ -43,8 +43,9 @@
  * Machines: a record and a list mean the same on every machine. A table belongs to the machine it was made on: its words are in that
  * machine's own byte order. size_t must have 64 bits, which is checked below.
  *
- * Versions: until 1.0 the second number of DW_VERSION grows whenever a signature, a number or a size of this header changes, and the name
- * by which the shared library is loaded with it. So a program that was compiled with another header does not start with it.
+ * Versions: until 1.0 the second number of DW_VERSION grows whenever a signature, a number or a size of this header changes, or what a call
+ * makes of the same bytes, and the name by which the shared library is loaded with it. So a program that was compiled with another header
+ * does not start with it.
  *
  * Linking: the library needs memcpy and memset of the C library, and nothing else.
  *
@@ -60,7 +61,7 @@
 extern "C" {
 #endif
 
-#define DW_VERSION "0.2.1"
+#define DW_VERSION "0.3.0"
 
 /* the library takes every count as 64 bits: where size_t has not so many, this does not compile */
 typedef char dw_size_t_has_64_bits[sizeof(size_t) == 8 ? 1 : -1];
@@ -154,7 +155,9 @@ uint64_t dw_ask(const uint64_t *table, size_t words, uint64_t bay, uint64_t *edi
 /* To give a message up: empties a bay that has a word other than 0, a damaged one too. 1, 2, 4. */
 uint64_t dw_drop(uint64_t *table, size_t words, uint64_t bay);
 
-/* For one digest over the chunks of a map: writes the 32-byte root of the chunk tree of n bytes, at most 1,048,576. 7, 9. */
+/* For one digest over the chunks of a map: writes the 32-byte root of the chunk tree of n bytes, at most 1,048,576. It is the tree hash of
+ * RFC 6962, section 2.1, with the chunks of 1,024 bytes as entries, the last of what is left. Roots from before 0.3 are void, but for those
+ * of at most 1,024 bytes. 7, 9. */
 uint64_t dw_tree(const uint8_t *map, size_t n, uint8_t *out, size_t out_n);
 
 /* To hold a digest against a list: is it the one that the list has for the name? Each call reads the whole list again, to know that it is

@@ -1,4 +1,5 @@
-/* Makes the calls of dwombarine.h that standard input asks for, on memory of its own, and tells what became of all of that memory.
+/* Makes the calls of dwombarine.h that standard input asks for, on memory of its own, and tells what became of all of that memory. So it
+ * does with the parts of a chunk tree that crate treeparts has, which are in no header.
  *
  * A number is 8 bytes, the least significant first. Input is batches: a count of bytes, then so many bytes of commands. All of a batch is
  * read before its first command is done, and after its last one the answers are written, their count of bytes first; so neither side ever
@@ -15,6 +16,8 @@
  *   14 save      run, bay, output                        22 judge     lent list, lent name, lent digest
  *   15 load      run, bay, lent record                   23 lookup    lent list, lent name
  *   24 start     edition, buffer                         25 put       buffer, lent name, lent digest
+ *   30 leaf      lent bytes, output                      31 parent    lent left node, lent right node, output
+ *   32 level     buffer
  *
  * A run is the place of its first word and its count of words. Lent is a count n and n bytes; but more than FAR bytes do not follow: the
  * call is lent n zeros then. Output is a count of at most OUTPUT bytes and a number f: counted from the beginning of the guard before it,
@@ -23,7 +26,7 @@
  * buffer of a call before in this batch, as it was left and where it lies. Lent bytes, outputs and buffers lie anywhere: the first of a
  * call s mod 16 bytes past a multiple of 16, where s is the number of shifts, the second s / 16 mod 16, and so on.
  *
- * The answer to a call is its number; for ask and lookup their two values; for a call with an output the GUARD bytes before it, the output
+ * The answer to a call is its number, 0 for a part of a tree, which has none; for ask and lookup their two values; for a call with an output the GUARD bytes before it, the output
  * and the GUARD bytes after it, and for one with a buffer likewise, but at most BUFFER of its bytes; the count of bytes lent to be read,
  * with the guards about them, that are not as they were; and the count of words of the memory that are not as they were before the call,
  * each with its place and its value.
@@ -31,6 +34,10 @@
  * A command that cannot be done ends the driver with status 3: then the sender is at fault.
  */
 #include "dwombarine.h"
+
+void part_leaf(const uint8_t *bytes, size_t n, uint8_t *out, size_t out_n);
+void part_parent(const uint8_t *left, const uint8_t *right, uint8_t *out, size_t out_n);
+void part_level(uint8_t *nodes, size_t n);
 
 long read(int file, void *to, size_t n);
 long write(int file, const void *from, size_t n);
@@ -277,6 +284,31 @@ static uint64_t call_at_once(uint8_t which) {
   }
 }
 
+static uint64_t part_of_tree(uint8_t which) {
+  size_t n, right_n, out_n;
+  switch (which) {
+    case 30: {
+      const uint8_t *bytes = lend(&n);
+      uint8_t *out = lend_output(&out_n);
+      part_leaf(bytes, n, out, out_n);
+      return 0;
+    }
+    case 31: {
+      const uint8_t *left = lend(&n), *right = lend(&right_n);
+      uint8_t *out = lend_output(&out_n);
+      if (n != DW_ROOT_BYTES || right_n != DW_ROOT_BYTES) give_up("no node has so many bytes");
+      part_parent(left, right, out, out_n);
+      return 0;
+    }
+    case 32: {
+      uint8_t *nodes = lend_buffer(&n);
+      part_level(nodes, n);
+      return 0;
+    }
+    default: give_up("no such command");
+  }
+}
+
 static void answer_words_changed(void) {
   uint64_t count = 0;
   for (size_t i = 0; i < words; i++) count += memory[i] != before[i];
@@ -293,7 +325,7 @@ static void call(uint8_t which) {
   lents = has_output = has_buffer = 0;
   shifts = number();
   told_edition = told_count = told_at = told_length = 0x5a5a5a5a5a5a5a5a;
-  answer_number(which < 20 ? call_on_table(which) : call_at_once(which));
+  answer_number(which < 20 ? call_on_table(which) : which < 30 ? call_at_once(which) : part_of_tree(which));
   if (which == 16) {
     answer_number(told_edition);
     answer_number(told_count);

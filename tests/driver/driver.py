@@ -2,7 +2,7 @@
 readable form. driver.c says what is sent; tests/driver/start runs a Python file that imports this one.
 
 A test that needs no table hands its cases to `compare`. One that has a table makes batches of its own and takes the Answers apart. A call
-that is new in the header is a case in driver.c, and a line in SIGNATURES.
+that is new in the header is a case in driver.c, and a line in CALLS; SIGNATURES has the parts of a tree too, which are in no header.
 """
 import select
 import struct
@@ -23,7 +23,7 @@ PATIENCE, SHORT_PATIENCE = 60, 5  # seconds for a batch, and once one has taken 
 GAVE_UP = 3  # the driver's status when a command cannot be done
 MOST_SHOWN, MOST_OF_ONE = 10, 3  # failures, and the calls of one that are shown
 
-SIGNATURES = {
+CALLS = {
     "lay_out": (10, ("words", "bays")),
     "open": (11, ("words", "bay", "edition")),
     "add": (12, ("words", "bay", "piece")),
@@ -39,7 +39,9 @@ SIGNATURES = {
     "list_start": (24, ("edition", "buffer")),
     "list_put": (25, ("buffer", "name", "digest")),
 }
-LENT = {"piece", "record", "message", "map", "list", "name", "digest"}
+PARTS = dict(leaf=(30, ("bytes", "out")), parent=(31, ("left", "right", "out")), level=(32, ("buffer",)))
+SIGNATURES = CALLS | PARTS
+LENT = {"piece", "record", "message", "map", "list", "name", "digest", "bytes", "left", "right"}
 TELLING = {"ask": ("edition", "count"), "lookup": ("at", "len")}
 
 number, two_numbers = struct.Struct("<Q").pack, struct.Struct("<QQ").pack
@@ -127,7 +129,7 @@ class Call(namedtuple("Call", "name args shifts")):
                 shown.append(f"{field} {short_bytes(value)}")
             if alignments.get(field) and not isinstance(value, Kept):
                 shown[-1] += f" at {alignments[field]} mod {ALIGNED}"
-        return f"dw_{self.name}({', '.join(shown)})"
+        return f"{'part' if self.name in PARTS else 'dw'}_{self.name}({', '.join(shown)})"
 
 
 def buffer_size(buffer):

@@ -247,5 +247,6 @@ def tree(data):
         return by_hashlib(2, b"")
     level = [by_hashlib(2, b"\0" + data[at : at + CHUNK]) for at in range(0, len(data), CHUNK)]
     while len(level) > 1:
-        level = [by_hashlib(2, b"\1" + level[i] + level[min(i + 1, len(level) - 1)]) for i in range(0, len(level), 2)]
+        pairs = [by_hashlib(2, b"\1" + left + right) for left, right in zip(level[::2], level[1::2])]
+        level = pairs + level[2 * len(pairs) :]  # a lone last node goes up as it is
     return level[0]

@@ -1,48 +1,27 @@
-"""Chunk trees through the C interface, against the rule of SPEC, "Chunk tree", written here with hashlib: tests/tree/run runs it.
+"""Chunk trees through the C interface, against RFC 6962's splits written in rules.py beside this: tests/tree/run runs it.
 
-Trees of every count of chunks to 40, of lengths about each power of two, of the longest map and past it, and every short output.
+Trees of every count of chunks to 40, of lengths about each power of two, of the longest map and past it, and every short output; the pair of
+maps that had one root before request 03; and leaf, parent and level by themselves, in parts.py.
 """
-import hashlib
 import os
 import random
 import sys
 
+from parts import Parts, vectors
+from rules import CHUNK, NODE, old_tree, tree
+
 from driver import ALIGNED, FAR, Call, compare
 
-CHUNK, LIMIT, ROOT = 1024, 1_048_576, 32
+LIMIT = 1_048_576
 
 seed = int(os.environ.get("SEED") or random.SystemRandom().randrange(2**32))
 rng = random.Random(seed)
 
 
-def sha256(data):
-    return hashlib.sha256(data).digest()
-
-
-def tree(data):
-    """SPEC, "Chunk tree", top down: a node over 2^k chunks' places from `at` on, or over those of them that are there."""
-    chunks = [data[i : i + CHUNK] for i in range(0, len(data), CHUNK)]
-    if not chunks:
-        return sha256(b"")
-
-    def node(at, span):
-        if span == 1:
-            return sha256(b"\x00" + chunks[at])
-        left = node(at, span // 2)
-        middle = at + span // 2
-        right = node(middle, span // 2) if middle < len(chunks) else left
-        return sha256(b"\x01" + left + right)
-
-    span = 1
-    while span < len(chunks):
-        span *= 2
-    return node(0, span)
-
-
 def expected(data, size):
     """Tree: 7, 9, the first that applies, and what is written; a refusal writes nothing."""
     n = data if isinstance(data, int) else len(data)
-    number = 7 if n > LIMIT else 9 if size < ROOT else 0
+    number = 7 if n > LIMIT else 9 if size < NODE else 0
     return number, tree(data) if number == 0 else b""
 
 
@@ -54,10 +33,8 @@ def maps():
     lengths += [rng.randrange(65_536) for _ in range(60)] + [rng.randrange(LIMIT) for _ in range(4)]
     for n in lengths:
         yield rng.randbytes(n), rng.choice((32, 32, 33, 64))
-    # a map whose lone last chunk is paired with itself, and the map that repeats this chunk
-    three = rng.randbytes(3 * CHUNK)
     yield three, 32
-    yield three + three[2 * CHUNK :], 32
+    yield four, 32
     for size in list(range(32)) + [40, 63]:
         yield rng.randbytes(rng.randrange(5000)), size
     for size in (0, 31, 32, 64):
@@ -75,8 +52,25 @@ def calls(data, size):
     return ((call, call.reply(number, wrote=root)),)
 
 
+def cases():
+    yield from (calls(*case) for case in maps())
+    nothing = Call("tree", (b"", (32, 0)), 0)
+    yield ((nothing, nothing.reply(0, wrote=vectors()[1][0])),)
+    parts = Parts(where)
+    yield from parts.published()
+    yield from parts.by_chance()
+
+
 print(f"seed {seed} (SEED={seed} repeats this run)", flush=True)
 where = random.Random(f"{seed} places")
-passed, failed = compare(calls(*case) for case in maps())
-print(f"{passed} passed, {failed} failed")
-sys.exit(0 if failed == 0 else 1)
+
+# request 03's own case: 3,072 bytes, and the 4,096 that repeat their last chunk. Both are among the maps, so that what is expected of them
+# is what the compiled call writes.
+three = rng.randbytes(3 * CHUNK)
+four = three + three[2 * CHUNK :]
+apart = old_tree(three) == old_tree(four) and tree(three) != tree(four)
+print("a chunk more, the last again, has another root, and had the same" if apart else "not ok: a chunk more, the last again: one root")
+
+passed, failed = compare(cases())
+print(f"{passed + apart} passed, {failed + (not apart)} failed")
+sys.exit(0 if failed == 0 and apart else 1)

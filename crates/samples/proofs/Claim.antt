@@ -22,7 +22,8 @@ use Rattle.sha2.specs.code.Hashing.{fit, absorbed}
 use Rattle.halfread.specs.Steps.{opened, added}
 use Rattle.records.specs.Record.{header, recordIn}
 use Rattle.lists.specs.Layout.{listBytes, entryBytes, entryRun, nameRun}
-use Rattle.tree.specs.Root.{sha256, leaf, parent, up, higher, climb, top}
+use Rattle.treerule.specs.Root.{sha256, leaf, parent}
+use Rattle.treerule.specs.Split.{powerTo, powerBelow, splitIn, split}
 use Rattle.samples.specs.Samples.{Sample, Hold, table}
 
 abbrev agree : List Sample → Bool
@@ -36,7 +37,7 @@ agree-hold (s ∷ ss) e =
     (same-eq (s .given) (s .said) (p .0), agree-hold ss (p .1))
 
 test : agree table ≡ true
-unfolding table be number toWords fromWords bits value bitsOf pieces primes primesBelow isPrime undivided rootWord root next schedule round rounds block blocks zeros pad parse roundWords hashFrom start224 start256 start384 start512 ascii generated editions edition digest message bytesIn zipWith parseBytes atFront fit absorbed opened added recordIn header rowBytes listBytes entryBytes entryRun nameRun closingFits sha256 leaf parent up higher climb top same
+unfolding table be number toWords fromWords bits value bitsOf pieces primes primesBelow isPrime undivided rootWord root next schedule round rounds block blocks zeros pad parse roundWords hashFrom start224 start256 start384 start512 ascii generated editions edition digest message bytesIn zipWith parseBytes atFront fit absorbed opened added recordIn header rowBytes listBytes entryBytes entryRun nameRun closingFits sha256 leaf parent powerTo powerBelow splitIn split same
 test = refl
 
 pub samples : Hold table

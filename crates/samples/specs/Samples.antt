@@ -17,7 +17,8 @@ use Rattle.sha2.specs.Closing.{closingFits}
 use Rattle.halfread.specs.Steps.{opened, added}
 use Rattle.records.specs.Record.{recordOf}
 use Rattle.lists.specs.Layout.{listBytes}
-use Rattle.tree.specs.Root.{leaf, top}
+use Rattle.treerule.specs.Root.{leaf}
+use Rattle.treerule.specs.Split.{split}
 
 pub record Sample : Type 0 where
   pub given : List ℕ
@@ -78,9 +79,14 @@ table =
     ∷ (listBytes (record { edition = 2; pairs = record { name = ascii "fleet.cfg"; digest = be 32 abcDigest } ∷ [] })
     is be 4 0x00020001 ++ be 4 0x10 ++ be 4 0x38 ++ be 4 0x41
     ++ be 4 0x38 ++ be 4 0x09 ++ be 32 abcDigest ++ be 9 0x666c6565742e636667)
-    -- the leaf of no bytes, and the root above it and the leaf of one byte 00: as published for trees of RFC 6962
+    -- the leaf of no bytes, and the root above three nodes, of which the last is carried up: each node as published for trees of RFC 6962
     ∷ (leaf [] is be 32 0x6e340b9cffb37a989ca544e6bb780a2c78901d3fb33738768511a30617afa01d)
-    ∷ (top (leaf [] ∷ leaf (0x00 ∷ []) ∷ []) is be 32 0xfac54203e7cc696cf0dfcb42c92a1d9dbaf70ad9e621f4bd8d98662f00e3c125)
+    ∷ (split
+    (be 32 0xfac54203e7cc696cf0dfcb42c92a1d9dbaf70ad9e621f4bd8d98662f00e3c125
+    ∷ be 32 0x5f083f0a1a33ca076a95279832580db3e0ef4584bdff1f54c8a360f50de3031e
+    ∷ be 32 0xbc1a0643b12e4d2d7c77918f44e0f4f79a838b6cf9ec5b5c283e1f4d88599e6b
+    ∷ [])
+    is be 32 0x4e3bbb1f7b478dcfe71fb631631519a3bca12c9aefca1612bfce4c13a86264d4)
     -- a message in every edition, as NIST's examples have it
     ∷ (digest 1 abc is be 28 0x23097d223405d8228642a477bda255b32aadbce4bda0b3f7e36c9da7)
     ∷ (digest 2 abc is be 32 abcDigest)

@@ -1,5 +1,5 @@
--- The hashes of a chunk tree: `nodeBytes` each, and how hash at once gives them (`hash-law`) of the messages
--- that the code makes in its buffers (`leaf-message`, `parent-message`).
+-- The hashes of a chunk tree: how hash at once gives them (`hash-law`), of the messages that the code makes in its buffers
+-- (`leaf-message`, `parent-message`).
 use Prim.Native.Nat.{ℕ, suc, _+_, _≤_, min}
 use mathlib.Core.Bool.{true, false}
 use mathlib.Core.List.{List, [], _∷_, _++_, append-nil}
@@ -9,33 +9,15 @@ use lib.ListN.{length, take, drop, length-take, length-drop, drop-of-length-le}
 use lib.Seq.{take-at, drop-at}
 use borrow.Author.Tests.{le-ltb}
 use Rattle.answers.specs.Judged.{Judged, first}
-use Rattle.fips.specs.Editions.{known, edition, editions, digestBytes}
-use Rattle.fips.proofs.Digest.{length-digest}
+use Rattle.fips.specs.Editions.{known, edition, editions}
 use Rattle.slices.specs.AtFront.{atFront}
 use Rattle.sha2.specs.Limit.{tooLong}
 use Rattle.sha2.specs.Closing.{closingFits}
 use Rattle.sha2.specs.Hash.{hashTests, hashed}
 use Rattle.slices.proofs.AtFront.{atFront-room, atFront-all}
+use Rattle.treerule.specs.Root.{nodeEdition, nodeBytes, sha256}
+use Rattle.treerule.proofs.Hashes.{node-size, length-sha256}
 use Rattle.tree.specs.code.Held.{pairBytes}
-use Rattle.tree.specs.Root.{nodeEdition, nodeBytes, sha256, leaf, parent}
-
--- ---- as long as a node
-
-size : digestBytes nodeEdition ≡ nodeBytes
-unfolding edition editions
-size = refl
-
-pub length-sha256 : (bytes : List ℕ) → length (sha256 bytes) ≡ nodeBytes
-unfolding sha256
-length-sha256 bytes = length-digest nodeEdition _ ∙ size
-
-pub length-leaf : (chunk : List ℕ) → length (leaf chunk) ≡ nodeBytes
-unfolding leaf
-length-leaf chunk = length-sha256 (0 ∷ chunk)
-
-pub length-parent : (l r : List ℕ) → length (parent l r) ≡ nodeBytes
-unfolding parent
-length-parent l r = length-sha256 (1 ∷ (l ++ r))
 
 -- ---- hash at once, whole bytes
 
@@ -50,7 +32,7 @@ fits-none = refl
 none-applies : (bytes out : List ℕ) → tooLong nodeEdition 0 (length bytes) ≡ false → nodeBytes ≤ length out →
     first (hashTests nodeEdition bytes 0 0 out) ≡ 0
 unfolding hashTests first
-none-applies bytes out h room = rw (known-node, h, fits-none, size, le-ltb (length out) nodeBytes room)
+none-applies bytes out h room = rw (known-node, h, fits-none, node-size, le-ltb (length out) nodeBytes room)
 
 pub hash-law : (bytes out : List ℕ) {n : ℕ} {left : List ℕ} → tooLong nodeEdition 0 (length bytes) ≡ false → length out ≡ nodeBytes →
     Judged (hashTests nodeEdition bytes 0 0 out) out (hashed nodeEdition bytes 0 0 out) n left → left ≡ sha256 bytes

@@ -1,19 +1,22 @@
 -- A level computed in place, the leaves put one after the other, and level after level: the invariants of the loops, and their turns.
--- What is done and what is left decide: the nodes written so far, and the nodes that the rest of the bytes gives.
+-- What is done and what is left decide: the nodes written so far, and the nodes that the rest of the bytes gives. `root-steps` has all of
+-- it together.
 use Prim.Native.Nat.{ℕ, suc, _+_, _-_, _*_, _/_, _<_, _≤_}
-use mathlib.Core.List.{List, [], _∷_, _++_, map, append-nil}
+use mathlib.Core.List.{List, [], _∷_, _++_, map, append-nil, flatten}
 use mathlib.Core.Path.{_≡_, refl, sym, ap, ap₂, subst⁻¹, _∙_}
 use native.Mathlib.Nat.{sub-zero}
 use native.Mathlib.Numerals.{add-one}
 use native.Mathlib.Omega.{arith}
-use lib.ListN.{length, take, drop, getD}
-use lib.Seq.{append-snoc, drop-drop}
-use Rattle.fips.specs.Bits.{pieces}
-use Rattle.tree.specs.Root.{chunkBytes, nodeBytes, Node, leaf, up, top}
-use Rattle.tree.specs.code.Held.{pairBytes, held, putNode}
-use Rattle.tree.proofs.Levels.{up-pieces, top-one, top-up}
-use Rattle.tree.proofs.Pieces.{length-pieces, held-put}
+use lib.ListN.{length, take, drop, getD, length-append, length-drop, take-append-drop}
+use lib.Seq.{append-snoc, drop-drop, length-take-le}
+use Rattle.slices.proofs.AtFront.{atFront-room}
 use Rattle.slices.proofs.Parts.{partTo, part-all, length-put-in, drop-put}
+use Rattle.fips.specs.Bits.{pieces}
+use Rattle.treerule.specs.Root.{chunkBytes, nodeBytes, chunkCount, Node, chunks, leaf, up, top, root}
+use Rattle.treerule.proofs.Pieces.{length-pieces, pieces-front}
+use Rattle.treerule.proofs.Levels.{top-one, top-up}
+use Rattle.tree.specs.code.Held.{pairBytes, held, putNode, levelled}
+use Rattle.tree.proofs.Held.{held-put, flat-held, held-levelled, length-levelled, up-pieces}
 
 -- one node more at the end of those that are done, and one fewer in the rest
 moved : (i : ℕ) (node : Node) (buffer : List ℕ) (rest : List Node) →
@@ -24,15 +27,16 @@ moved i node buffer rest whole room =
 
 -- ---- one level up
 
--- j nodes of the level above are in place
+-- j nodes of the level above are in place, and nothing behind them is touched
 pub record Raised (old : List ℕ) (count : ℕ) (buffer : List ℕ) (j : ℕ) : Type 0 where
   pub long : length buffer ≡ length old
   pub within : 2 * j ≤ count + 1
+  pub kept : drop (j * nodeBytes) buffer ≡ drop (j * nodeBytes) old
   pub nodes : held j buffer ++ up (held (count - 2 * j) (drop (pairBytes * j) buffer)) ≡ up (held count old)
 
 pub raised-none : (old : List ℕ) (count : ℕ) → Raised old count old 0
 unfolding pieces
-raised-none old count = record { long = refl; within = omega arith; nodes = rw sub-zero }
+raised-none old count = record { long = refl; within = omega arith; kept = refl; nodes = rw sub-zero }
 
 raised-one : (old : List ℕ) (count : ℕ) (buffer : List ℕ) (j : ℕ) {node : Node} →
     count * nodeBytes ≤ length old → 2 * j < count → Raised old count buffer j → length node ≡ nodeBytes →
@@ -42,6 +46,7 @@ raised-one old count buffer j {node} room h r whole is =
     let k = count - 2 * j in
     let fewer : count - 2 * (j + 1) ≡ k - 2 = omega arith in
     let on : pairBytes * (j + 1) ≡ at + pairBytes = omega arith in
+    let next : (j + 1) * nodeBytes ≡ j * nodeBytes + nodeBytes = omega arith in
     let space : j * nodeBytes + nodeBytes ≤ length buffer = omega (arith, r .long) in
     let rest : drop (pairBytes * (j + 1)) (putNode j node buffer) ≡ drop pairBytes (drop at buffer) =
     drop-put (j * nodeBytes) nodeBytes node buffer whole space (pairBytes * (j + 1)) (omega arith)
@@ -49,6 +54,13 @@ raised-one old count buffer j {node} room h r whole is =
     record {
       long = length-put-in (j * nodeBytes) nodeBytes node buffer whole space ∙ r .long;
       within = omega arith;
+      kept =
+          drop-put (j * nodeBytes) nodeBytes node buffer whole space ((j + 1) * nodeBytes) (omega arith)
+          ∙ ap (λ (n : ℕ). drop n buffer) next
+          ∙ sym (drop-drop nodeBytes (j * nodeBytes) buffer)
+          ∙ ap (drop nodeBytes) (r .kept)
+          ∙ drop-drop nodeBytes (j * nodeBytes) old
+          ∙ ap (λ (n : ℕ). drop n old) (sym next);
       nodes =
           ap₂ (λ (n : ℕ) (l : List ℕ). held (j + 1) (putNode j node buffer) ++ up (held n l)) fewer rest
           ∙ moved j node buffer (up (held (k - 2) (drop pairBytes (drop at buffer)))) whole space
@@ -68,16 +80,24 @@ raised-more old count buffer j room h r whole is put =
     (raised-one old count buffer j room h r whole
     (is ∙ ap (λ (l : List ℕ). getD (up (held (count - 2 * j) l)) 0 []) (part-all (pairBytes * j) buffer)))
 
-pub raised-all : (old : List ℕ) (count : ℕ) (buffer : List ℕ) (j : ℕ) → count ≤ 2 * j → Raised old count buffer j →
-    held ((count + 1) / 2) buffer ≡ up (held count old)
-unfolding up pieces
-raised-all old count buffer j h r =
-    let e : (count + 1) / 2 ≡ j = omega (arith, r .within) in
+-- all of them: what was held is replaced by the level above it
+pub raised-all : (old buffer : List ℕ) (j : ℕ) → length old / nodeBytes ≤ 2 * j → Raised old (length old / nodeBytes) buffer j →
+    buffer ≡ levelled old
+unfolding up pieces levelled
+raised-all old buffer j h r =
+    let count = length old / nodeBytes in
+    let above = flatten (up (held count old)) in
     let z : count - 2 * j ≡ 0 = omega arith in
-    ap (λ (n : ℕ). held n buffer) e
-    ∙ sym (append-nil (held j buffer))
+    let room : j * nodeBytes ≤ length buffer = omega (arith, r .long, r .within) in
+    let nodes : held j buffer ≡ up (held count old) =
+    sym (append-nil (held j buffer))
     ∙ ap (λ (n : ℕ). held j buffer ++ up (held n (drop (pairBytes * j) buffer))) (sym z)
-    ∙ r .nodes
+    ∙ r .nodes in
+    let front : take (j * nodeBytes) buffer ≡ above = sym (flat-held j buffer room) ∙ ap flatten nodes in
+    let long : j * nodeBytes ≡ length above = sym (length-take-le (j * nodeBytes) buffer room) ∙ ap length front in
+    sym (take-append-drop (j * nodeBytes) buffer)
+    ∙ ap₂ (λ (l m : List ℕ). l ++ m) front (r .kept ∙ ap (λ (n : ℕ). drop n old) long)
+    ∙ sym (atFront-room above old (omega (arith, r .long)))
 
 -- ---- the leaves
 
@@ -147,14 +167,26 @@ pub record Climbed (old : List ℕ) (count : ℕ) (buffer : List ℕ) (left : �
 pub climbed-none : (old : List ℕ) (count : ℕ) → 0 < count → Climbed old count old count
 climbed-none old count h = record { long = refl; some = h; within = omega arith; above = refl }
 
-pub climbed-more : (old : List ℕ) (count : ℕ) (buffer : List ℕ) (left : ℕ) {new : List ℕ} → 1 < left → Climbed old count buffer left →
-    length new ≡ length buffer → held ((left + 1) / 2) new ≡ up (held left buffer) → Climbed old count new ((left + 1) / 2)
-climbed-more old count buffer left h r same is =
+-- the nodes that are left are lent as a part, which comes back as the level above them
+pub climbed-more : (old : List ℕ) (count : ℕ) (buffer : List ℕ) (left : ℕ) {part : List ℕ} →
+    count * nodeBytes ≤ length old → 1 < left → Climbed old count buffer left → part ≡ levelled (take (left * nodeBytes) buffer) →
+    Climbed old count (part ++ drop (left * nodeBytes) buffer) ((left + 1) / 2)
+climbed-more old count buffer left {part} room h r is =
+    let front = take (left * nodeBytes) buffer in
+    let rest = drop (left * nodeBytes) buffer in
+    let long : length front ≡ left * nodeBytes = length-take-le (left * nodeBytes) buffer (omega (arith, r .long, r .within)) in
+    let same : length part ≡ length front = ap length is ∙ length-levelled front in
+    let nodes : held left front ≡ held left buffer =
+    sym (pieces-front nodeBytes left front rest (omega arith)) ∙ ap (held left) (take-append-drop (left * nodeBytes) buffer) in
     record {
-      long = same ∙ r .long;
+      long = length-append part rest ∙ omega (arith, length-drop (left * nodeBytes) buffer, r .long);
       some = omega arith;
       within = omega (arith, r .within);
-      above = ap top is ∙ top-up (held left buffer) (rw (length-pieces nodeBytes left buffer) h) ∙ r .above;
+      above =
+          ap (λ (l : List ℕ). top (held ((left + 1) / 2) (l ++ rest))) is
+          ∙ ap top (held-levelled left front rest long ∙ ap up nodes)
+          ∙ top-up (held left buffer) (rw (length-pieces nodeBytes left buffer) (r .some))
+          ∙ r .above;
     }
 
 pub climbed-all : (old : List ℕ) (count : ℕ) (buffer : List ℕ) (left : ℕ) → left ≤ 1 → Climbed old count buffer left →
@@ -163,3 +195,11 @@ unfolding pieces
 climbed-all old count buffer left h r =
     let one : 1 ≡ left = omega (arith, r .some) in
     sym (top-one (take nodeBytes buffer)) ∙ ap (λ (n : ℕ). top (held n buffer)) one ∙ r .above
+
+-- ---- the steps that the code takes: the leaves of all chunks in a buffer, and the node above them
+
+pub root-steps : (bytes leaves : List ℕ) {r : Node} →
+    held (chunkCount (length bytes)) leaves ≡ map leaf (pieces chunkBytes (chunkCount (length bytes)) bytes) →
+    r ≡ top (held (chunkCount (length bytes)) leaves) → r ≡ root bytes
+unfolding root chunks
+root-steps bytes leaves placed above = above ∙ ap top placed

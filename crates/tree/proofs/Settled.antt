@@ -9,6 +9,8 @@ use Rattle.answers.specs.declared.Answer.{Answer}
 use Rattle.answers.proofs.Outcome.{answer-both}
 use Rattle.tree.proofs.whole.tree as tree
 use Rattle.tree.proofs.whole.tree.Reads as tree-reads
+use Rattle.tree.proofs.whole.level as level
+use Rattle.tree.proofs.whole.level.Reads as level-reads
 use Rattle.tree.proofs.node.nothing as nothing
 use Rattle.tree.proofs.node.nothing.Reads as nothing-reads
 use Rattle.tree.proofs.node.leaf as leaf
@@ -18,6 +20,9 @@ use Rattle.tree.proofs.node.parent.Reads as parent-reads
 
 pub tree-settled : Settles {A = Answer × List ℕ} tree.ended tree-reads.Learnt (λ κs r x. (r, now (x .1 .0)))
 tree-settled κs a r s x y = answer-both
+
+pub level-settled : Settles {A = List ℕ} level.ended level-reads.Learnt (λ κs r x. now (x .0))
+level-settled κs a r s x y = value-settled
 
 pub nothing-settled : Settles nothing.ended nothing-reads.Learnt (λ κs r x. r)
 nothing-settled κs a r s x y = value-settled

@@ -1,4 +1,3 @@
--- The chunk tree: read from the top.
-pub mod Root
+-- The chunk tree of a whole map, as a call; the tree itself is in crate treerule.
 pub mod Tree
 pub mod code

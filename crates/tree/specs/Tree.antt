@@ -5,7 +5,7 @@ use lib.Dec.{ltb}
 use lib.ListN.{length}
 use Rattle.answers.specs.Judged.{Test, _when_, Judged}
 use Rattle.slices.specs.AtFront.{atFront}
-use Rattle.tree.specs.Root.{nodeBytes, root}
+use Rattle.treerule.specs.Root.{nodeBytes, root}
 
 -- house: at most 1 MiB
 abbrev pub treeLimit : ℕ

@@ -4,7 +4,7 @@ ghost use mathlib.Core.Path.{_≡_};
 ghost use mathlib.Core.List.{[]};
 ghost use lib.ListN.{length, take};
 ghost use Rattle.sha2.specs.Limit.{tooLong};
-ghost use Rattle.tree.specs.Root.{nodeEdition, sha256, chunkBytes, leaf as leafOf, parent as parentOf};
+ghost use Rattle.treerule.specs.Root.{nodeEdition, sha256, chunkBytes, leaf as leafOf, parent as parentOf};
 use slices::front::put_front;
 use slices::places::least;
 

@@ -1,13 +1,13 @@
 // The tree of a whole map: its leaves in a buffer of nodes, then one level after the other in their place, up to the root.
 ghost use mathlib.Core.Path.{_≡_};
 ghost use mathlib.Core.List.{[], map as each};
-ghost use Prim.Native.Nat.{_+_, _*_, _/_, _<_, _≤_};
+ghost use Prim.Native.Nat.{_+_, _*_, _<_, _≤_};
 ghost use lib.ListN.{length, take, getD};
 ghost use Rattle.answers.specs.Numbers.{numberOf};
 ghost use Rattle.fips.specs.Bits.{pieces};
-ghost use Rattle.tree.specs.code.Held.{held, nodeAt, putNode};
-ghost use Rattle.tree.specs.Root.{chunkBytes, nodeBytes, leaf as leafOf, up, top, root as rootOf};
+ghost use Rattle.tree.specs.code.Held.{held, nodeAt, putNode, levelled};
 ghost use Rattle.tree.specs.Tree.{treeLimit, Trees};
+ghost use Rattle.treerule.specs.Root.{chunkBytes, nodeBytes, leaf as leafOf, up, top, root as rootOf};
 use crate::node::CHUNK;
 use crate::node::NODE;
 use crate::node::leaf;
@@ -49,24 +49,25 @@ fn put_node(nodes: &mut [u8], i: usize, node: [u8; NODE])
     put_front(&mut nodes[start..end], &node);
 }
 
-// The rule of a level: the first node of the level above `count` nodes. Where there is one alone, it is left and right.
+// The rule of a level: the first node of the level above `count` nodes. One alone is carried up unchanged.
 fn first_above(nodes: &[u8], count: usize) -> [u8; NODE]
     requires { ⌜ (0 < count) × (count * nodeBytes ≤ length (now nodes)) ⌝ }
     ensures { λ r. ⌜ r ≡ getD (up (held count (now (nodes .entry)))) 0 [] ⌝ }
 {
     let left = node_at(nodes, 0);
     if count == 1 {
-        return parent(left, left);
+        return left;
     }
     let right = node_at(nodes, 1);
     parent(left, right)
 }
 
-// One level up, in place: node j of the level above takes the place of a node that is read no more.
-fn level(nodes: &mut [u8], count: usize)
-    requires { ⌜ count * nodeBytes ≤ length (now nodes) ⌝ }
-    ensures { λ _. ⌜ held ((count + 1) / 2) (now (nodes .exit)) ≡ up (held count (now (nodes .entry))) ⌝ }
+// One level up from all the nodes that the bytes hold, in place: node j of the level above takes the place of a node that is read no more.
+// What stands behind that level is left as it was.
+pub fn level(nodes: &mut [u8])
+    ensures { λ _. ⌜ now (nodes .exit) ≡ levelled (now (nodes .entry)) ⌝ }
 {
+    let count = nodes.len() / NODE;
     let mut j = 0;
     while 2 * j < count {
         let start = PAIR * j;
@@ -83,7 +84,8 @@ fn rise(nodes: &mut [u8], count: usize)
 {
     let mut left = count;
     while 1 < left {
-        level(nodes, left);
+        let end = left * NODE;
+        level(&mut nodes[..end]);
         left = (left + 1) / 2;
     }
 }

@@ -6,7 +6,7 @@ use lib.ListN.{length}
 use lib.Seq.{length-take-le}
 use borrow.Author.Needs.{needs}
 use Rattle.sha2.proofs.Limits.{within-limit}
-use Rattle.tree.specs.Root.{chunkBytes, nodeEdition, sha256, leaf}
+use Rattle.treerule.specs.Root.{chunkBytes, nodeEdition, sha256, leaf}
 use Rattle.tree.proofs.Hashes.{leaf-message}
 use Rattle.tree.proofs.node.leaf.Statement.{statement}
 use Rattle.tree.proofs.node.leaf.Tie as tie

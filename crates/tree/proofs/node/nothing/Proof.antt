@@ -1,7 +1,7 @@
 -- `tree::node::nothing` meets its contract: a message of no bytes is not too long. Assumes nothing.
 use borrow.Author.Needs.{needs}
 use Rattle.sha2.proofs.Limits.{no-length}
-use Rattle.tree.specs.Root.{nodeEdition}
+use Rattle.treerule.specs.Root.{nodeEdition}
 use Rattle.tree.proofs.node.nothing.Statement.{statement}
 use Rattle.tree.proofs.node.nothing.Tie as tie
 

@@ -5,7 +5,7 @@ use native.Mathlib.Omega.{arith}
 use lib.ListN.{length, length-append}
 use borrow.Author.Needs.{needs}
 use Rattle.sha2.proofs.Limits.{within-limit}
-use Rattle.tree.specs.Root.{nodeBytes, nodeEdition, sha256, parent}
+use Rattle.treerule.specs.Root.{nodeBytes, nodeEdition, sha256, parent}
 use Rattle.tree.specs.code.Held.{pairBytes}
 use Rattle.tree.proofs.Hashes.{behind, parent-message}
 use Rattle.tree.proofs.node.parent.Statement.{statement}

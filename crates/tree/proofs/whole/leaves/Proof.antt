@@ -5,7 +5,7 @@ use mathlib.Core.Path.{_≡_}
 use native.Mathlib.Omega.{arith}
 use lib.ListN.{length}
 use borrow.Author.Needs.{needs}
-use Rattle.tree.specs.Root.{nodeBytes}
+use Rattle.treerule.specs.Root.{nodeBytes}
 use Rattle.tree.proofs.InPlace.{Leaved, leaved-none, leaved-more, leaved-all}
 use Rattle.tree.proofs.whole.leaves.Statement.{statement}
 use Rattle.tree.proofs.whole.leaves.Tie as tie

@@ -1,11 +1,11 @@
 -- `tree::whole::level` meets its contract. The invariant: j nodes of the level above are in place, and the level above the rest follows
 -- them. The measure is how many nodes are left. Assumes nothing.
-use Prim.Native.Nat.{_-_, _*_}
+use Prim.Native.Nat.{_-_, _*_, _/_}
 use mathlib.Core.Path.{_≡_}
 use native.Mathlib.Omega.{arith}
 use lib.ListN.{length, length-take, length-drop}
 use borrow.Author.Needs.{needs}
-use Rattle.tree.specs.Root.{nodeBytes}
+use Rattle.treerule.specs.Root.{nodeBytes}
 use Rattle.tree.proofs.InPlace.{Raised, raised-none, raised-more, raised-all}
 use Rattle.tree.proofs.whole.level.Statement.{statement}
 use Rattle.tree.proofs.whole.level.Tie as tie
@@ -25,12 +25,12 @@ loop-again c =
     let s = c .before .before .before .before .before .before .before .before .before .before in
     let node = c .before .before .before .before .first-above in
     let whole : length (node .result) ≡ nodeBytes = search needs in
-    raised-more (s .args .nodes .now) (s .args .count) (l .nodes) (l .j) (s .pre)
+    raised-more (s .args .nodes .now) (length (s .args .nodes .now) / nodeBytes) (l .nodes) (l .j) (omega arith)
     (c .before .before .before .before .before .before .before .loop-test .taken) (l .inv) whole (node .ensures)
     (c .before .before .put-node .ensures)
 
 returns : tie.Need-returns Inv-loop μ-loop
-returns c = raised-all _ _ _ _ (c .loop-test .left) (c .before .loop .inv)
+returns c = raised-all (c .before .before .before .args .nodes .now) _ _ (c .loop-test .left) (c .before .loop .inv)
 
 pub level-spec : {M : Type 1} → statement M
 level-spec =

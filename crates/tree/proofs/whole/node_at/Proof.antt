@@ -5,7 +5,7 @@ use native.Mathlib.Nat.{add-sub-cancel-left}
 use native.Mathlib.Omega.{arith}
 use lib.ListN.{length, take, drop, length-take, length-drop}
 use borrow.Author.Needs.{needs}
-use Rattle.tree.specs.Root.{nodeBytes}
+use Rattle.treerule.specs.Root.{nodeBytes}
 use Rattle.slices.proofs.AtFront.{atFront-all}
 use Rattle.tree.proofs.whole.node_at.Statement.{statement}
 use Rattle.tree.proofs.whole.node_at.Tie as tie

@@ -7,7 +7,7 @@ use native.Mathlib.Omega.{arith}
 use lib.ListN.{length, take, drop, length-take, length-drop}
 use borrow.Author.Needs.{needs}
 use Rattle.slices.specs.Parts.{putPart}
-use Rattle.tree.specs.Root.{nodeBytes}
+use Rattle.treerule.specs.Root.{nodeBytes}
 use Rattle.slices.proofs.AtFront.{atFront-all}
 use Rattle.tree.proofs.whole.put_node.Statement.{statement}
 use Rattle.tree.proofs.whole.put_node.Tie as tie

@@ -1,6 +1,11 @@
 -- `tree::whole::rise` meets its contract. The invariant: the node above those that are left is the node above all. The measure is how
 -- many are left. Assumes nothing.
+use Prim.Native.Nat.{_*_}
+use mathlib.Core.Path.{_≡_, sym}
 use native.Mathlib.Omega.{arith}
+use lib.ListN.{length}
+use lib.Seq.{length-take-le}
+use Rattle.treerule.specs.Root.{nodeBytes}
 use Rattle.tree.proofs.InPlace.{Climbed, climbed-none, climbed-more, climbed-all}
 use Rattle.tree.proofs.whole.rise.Statement.{statement}
 use Rattle.tree.proofs.whole.rise.Tie as tie
@@ -14,14 +19,18 @@ abbrev μ-loop : tie.MeasureT-loop
 loop-holds : tie.Need-loop-holds Inv-loop μ-loop
 loop-holds c = climbed-none _ _ (c .before .pre .0)
 
-level-requires : tie.Need-level-requires Inv-loop μ-loop
-level-requires c κs = omega arith
+slice-relend-prefix-level : tie.Need-slice-relend-prefix-level Inv-loop μ-loop
+slice-relend-prefix-level c = omega arith
+
+slice-aggregate-level : tie.Need-slice-aggregate-level Inv-loop μ-loop
+slice-aggregate-level c = sym (length-take-le _ _ (slice-relend-prefix-level (c .before)))
 
 loop-again : tie.Need-loop-again Inv-loop μ-loop
 loop-again c =
     let l = c .before .before .before .before .before .loop in
-    let up = c .before .before .level in
-    climbed-more _ _ (l .nodes) (l .left) (c .before .before .before .before .loop-test .taken) (l .inv) (up .kept .0) (up .ensures)
+    let s = c .before .before .before .before .before .before .before in
+    climbed-more (s .args .nodes .now) (s .args .count) (l .nodes) (l .left) (s .pre .1)
+    (c .before .before .before .before .loop-test .taken) (l .inv) (c .before .before .level .ensures)
 
 returns : tie.Need-returns Inv-loop μ-loop
 returns c = climbed-all _ _ _ _ (c .loop-test .left) (c .before .loop .inv)
@@ -30,4 +39,5 @@ pub rise-spec : {M : Type 1} → statement M
 rise-spec =
     tie.close
     (tie.spec
-    Inv-loop μ-loop loop-holds level-requires (λ c. omega arith) (λ c. omega arith) loop-again (λ c. omega arith) returns)
+    Inv-loop μ-loop loop-holds (λ c. omega arith) slice-relend-prefix-level slice-aggregate-level (λ c κs. tt) (λ c. omega arith)
+    (λ c. omega arith) loop-again (λ c. omega arith) returns)

@@ -1,7 +1,8 @@
 -- `tree::whole::root` meets its contract: the leaves of all chunks, and the node above them. Assumes nothing.
 use mathlib.Core.Path.{sym, _∙_}
 use borrow.Author.Needs.{needs}
-use Rattle.tree.proofs.Root.{root-none, root-steps}
+use Rattle.treerule.proofs.Root.{root-none}
+use Rattle.tree.proofs.InPlace.{root-steps}
 use Rattle.tree.proofs.whole.root.Statement.{statement}
 use Rattle.tree.proofs.whole.root.Tie as tie
 

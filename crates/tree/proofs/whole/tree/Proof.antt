@@ -7,7 +7,7 @@ use borrow.Author.Tests.{lt-ltb, le-ltb}
 use Rattle.answers.specs.Judged.{first}
 use Rattle.answers.proofs.Outcome.{refused, done}
 use Rattle.slices.specs.AtFront.{atFront}
-use Rattle.tree.specs.Root.{nodeBytes}
+use Rattle.treerule.specs.Root.{nodeBytes}
 use Rattle.tree.specs.Tree.{treeLimit, treeTests, rooted}
 use Rattle.tree.proofs.whole.tree.Statement.{statement}
 use Rattle.tree.proofs.whole.tree.Tie as tie

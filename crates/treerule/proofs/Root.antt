@@ -1,16 +1,17 @@
 -- The root of a chunk tree: as long as a node (`length-root`), over nothing the empty message's hash (`root-empty`), over one chunk
--- its leaf (`root-one-chunk`).
+-- its leaf (`root-one-chunk`); and RFC 6962's tree hash of the chunks: `root-tree-hash`, and by the RFC's rules alone `root-rfc6962`.
 use Prim.Native.Nat.{ℕ, _<_, _≤_}
-use mathlib.Core.List.{List, [], _∷_, map}
-use mathlib.Core.Path.{_≡_, refl, ap, _∙_}
+use mathlib.Core.List.{List, [], _∷_, map, flatten}
+use mathlib.Core.Path.{_≡_, refl, sym, ap, _∙_}
 use native.Mathlib.Omega.{arith}
 use lib.ListN.{length, take}
 use lib.Seq.{take-all}
 use Rattle.fips.specs.Bits.{pieces}
-use Rattle.tree.specs.Root.{chunkBytes, nodeBytes, chunkCount, Node, sha256, chunks, leaf, climb, top, root}
-use Rattle.tree.specs.code.Held.{held}
-use Rattle.tree.proofs.Levels.{leaves-whole, length-top, top-one}
-use Rattle.tree.proofs.Pieces.{length-pieces, joined, pieces-join}
+use Rattle.treerule.specs.Root.{chunkBytes, nodeBytes, chunkCount, Node, sha256, chunks, leaf, climb, top, root}
+use Rattle.treerule.specs.Split.{Rfc6962, treeHash}
+use Rattle.treerule.proofs.Levels.{leaves-whole, length-top, top-one}
+use Rattle.treerule.proofs.Pieces.{length-pieces, pieces-flat}
+use Rattle.treerule.proofs.Splits.{rfc6962-split, levels-split}
 
 pub length-root : (bytes : List ℕ) → length (root bytes) ≡ nodeBytes
 unfolding root
@@ -29,9 +30,9 @@ unfolding chunks
 length-chunks bytes = length-pieces chunkBytes (chunkCount (length bytes)) bytes
 
 -- the chunks are the bytes, one after the other
-pub chunks-join : (bytes : List ℕ) → joined (chunks bytes) ≡ bytes
+pub chunks-join : (bytes : List ℕ) → flatten (chunks bytes) ≡ bytes
 unfolding chunks
-chunks-join bytes = pieces-join chunkBytes (chunkCount (length bytes)) bytes (omega arith)
+chunks-join bytes = pieces-flat chunkBytes (chunkCount (length bytes)) bytes (omega arith)
 
 pub root-one-chunk : (bytes : List ℕ) → 0 < length bytes → length bytes ≤ chunkBytes → root bytes ≡ leaf bytes
 unfolding root chunks pieces
@@ -41,9 +42,10 @@ root-one-chunk bytes some few =
     ∙ top-one (leaf (take chunkBytes bytes))
     ∙ ap leaf (take-all chunkBytes bytes few)
 
--- the steps that the code takes: the leaves of all chunks in a buffer, and the node above them
-pub root-steps : (bytes leaves : List ℕ) {r : Node} →
-    held (chunkCount (length bytes)) leaves ≡ map leaf (pieces chunkBytes (chunkCount (length bytes)) bytes) →
-    r ≡ top (held (chunkCount (length bytes)) leaves) → r ≡ root bytes
-unfolding root chunks
-root-steps bytes leaves placed above = above ∙ ap top placed
+pub root-tree-hash : (bytes : List ℕ) → root bytes ≡ treeHash (chunks bytes)
+unfolding root treeHash
+root-tree-hash bytes = levels-split (map leaf (chunks bytes))
+
+pub root-rfc6962 : {hash : List (List ℕ) → Node} → Rfc6962 leaf hash → (bytes : List ℕ) → root bytes ≡ hash (chunks bytes)
+unfolding treeHash
+root-rfc6962 rule bytes = root-tree-hash bytes ∙ sym (rfc6962-split rule (chunks bytes))

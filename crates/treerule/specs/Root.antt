@@ -41,22 +41,16 @@ leaf chunk = sha256 (0 ∷ chunk)
 unfoldable pub parent : Node → Node → Node
 parent left right = sha256 (1 ∷ (left ++ right))
 
--- one level up: two by two from the front, and what is left over stands on both sides of its parent
+-- one level up: two by two from the front, and a lone last node is carried up unchanged
 unfoldable pub up : List Node → List Node
 up [] = []
-up (n ∷ []) = parent n n ∷ []
+up (n ∷ []) = n ∷ []
 up (l ∷ r ∷ ns) = parent l r ∷ up ns
 
--- the next level, or the same where one node is left: there the climb stops
-unfoldable pub higher : List Node → List Node
-higher [] = []
-higher (n ∷ []) = n ∷ []
-higher (l ∷ r ∷ ns) = up (l ∷ r ∷ ns)
-
--- k levels higher, or fewer where the climb stops
+-- k levels up; one node that is left alone stays
 unfoldable pub climb : ℕ → List Node → List Node
 climb zero ns = ns
-climb (suc k) ns = climb k (higher ns)
+climb (suc k) ns = climb k (up ns)
 
 -- the one node above all; as many levels as there are nodes suffice. Above no nodes it is what no bytes hash to
 unfoldable pub top : List Node → Node
