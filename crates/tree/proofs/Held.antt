@@ -4,7 +4,6 @@
 use Prim.Native.Nat.{ℕ, zero, suc, _+_, _-_, _*_, _/_, _<_, _≤_}
 use mathlib.Core.List.{List, [], _∷_, _++_, append-assoc, flatten}
 use mathlib.Core.Path.{_≡_, refl, sym, ap, ap₂, _∙_}
-use native.Mathlib.Nat.{suc-mul}
 use native.Mathlib.Omega.{arith}
 use lib.ListN.{length, take, drop, getD, length-append, length-drop, take-append-drop}
 use lib.Seq.{length-take-le, take-at, drop-at, drop-drop}
@@ -76,7 +75,8 @@ unfolding levelled
 held-levelled count part rest long =
     let above = up (held count part) in
     let whole : Whole above = up-whole (held count part) (held-whole count part (omega arith)) in
-    let many : length above ≡ (count + 1) / 2 = length-up (held count part) ∙ ap (λ (n : ℕ). (n + 1) / 2) (length-pieces nodeBytes count part) in
+    let many : length above ≡ (count + 1) / 2 =
+    length-up (held count part) ∙ ap (λ (n : ℕ). (n + 1) / 2) (length-pieces nodeBytes count part) in
     let all : length part / nodeBytes ≡ count = omega arith in
     let room : length (flatten above) ≤ length part = omega (arith, length-flat above whole) in
     ap (λ (n : ℕ). held ((count + 1) / 2) (atFront (flatten (up (held n part))) part ++ rest)) all

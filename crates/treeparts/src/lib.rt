@@ -1,5 +1,5 @@
-// The parts of a chunk tree under C names, for tests/tree: published trees have leaves that are no chunks, and no call takes those. They are
-// in no header. Each writes at the front of what it is lent, and leaves what stands behind.
+// The parts of a chunk tree under C names, for tests/tree: published trees have leaves that are no chunks, which no call takes. They are in
+// no header. Each writes at the front of what it is lent, and leaves what stands behind.
 ghost use mathlib.Core.Path.{_≡_};
 ghost use lib.ListN.{take};
 ghost use Rattle.slices.specs.AtFront.{atFront};

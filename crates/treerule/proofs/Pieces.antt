@@ -1,6 +1,6 @@
--- Pieces of a list: how many, one more at the end (`pieces-snoc`), of a front (`pieces-front`), and that enough of them leave nothing out
--- (`pieces-flat`); the other way round, what pieces of one length are cut from (`flat-pieces`).
-use Prim.Native.Nat.{ℕ, zero, suc, _+_, _*_, _≤_}
+-- Pieces of a list: how many (`length-pieces`), one more at the end (`pieces-snoc`), of a front (`pieces-front`), and that enough of them
+-- leave nothing out (`pieces-flat`).
+use Prim.Native.Nat.{ℕ, zero, suc, _*_, _≤_}
 use mathlib.Core.List.{List, [], _∷_, _++_, flatten}
 use mathlib.Core.Path.{_≡_, refl, sym, ap, _∙_}
 use native.Mathlib.Nat.{zero-mul, suc-mul, add-comm}

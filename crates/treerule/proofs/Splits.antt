@@ -7,8 +7,8 @@ use mathlib.Core.Path.{_≡_, refl, sym, ap, ap₂, _∙_}
 use native.Mathlib.Omega.{arith}
 use lib.ListN.{length, take, drop, length-drop, length-map}
 use lib.Seq.{length-take-le}
-use Rattle.treerule.specs.Root.{Node, sha256, leaf, parent, up, climb, top}
-use Rattle.treerule.specs.Split.{Rfc6962, powerBelow, splitIn, split, treeHash}
+use Rattle.treerule.specs.Root.{Node, leaf, parent, climb, top}
+use Rattle.treerule.specs.Split.{Rfc6962, splitIn, split, treeHash}
 use Rattle.treerule.proofs.Powers.{below-two-pow, power-below}
 use Rattle.treerule.proofs.Levels.{top-one, top-more}
 

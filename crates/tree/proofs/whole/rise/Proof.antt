@@ -1,11 +1,8 @@
 -- `tree::whole::rise` meets its contract. The invariant: the node above those that are left is the node above all. The measure is how
 -- many are left. Assumes nothing.
-use Prim.Native.Nat.{_*_}
-use mathlib.Core.Path.{_≡_, sym}
+use mathlib.Core.Path.{sym}
 use native.Mathlib.Omega.{arith}
-use lib.ListN.{length}
 use lib.Seq.{length-take-le}
-use Rattle.treerule.specs.Root.{nodeBytes}
 use Rattle.tree.proofs.InPlace.{Climbed, climbed-none, climbed-more, climbed-all}
 use Rattle.tree.proofs.whole.rise.Statement.{statement}
 use Rattle.tree.proofs.whole.rise.Tie as tie
