@@ -12,11 +12,11 @@ use lib.Seq.{append-snoc, drop-drop, length-take-le}
 use Rattle.slices.proofs.AtFront.{atFront-room}
 use Rattle.slices.proofs.Parts.{partTo, part-all, length-put-in, drop-put}
 use Rattle.fips.specs.Bits.{pieces}
-use Rattle.treerule.specs.Root.{chunkBytes, nodeBytes, chunkCount, Node, chunks, leaf, up, top, root}
+use Rattle.treerule.specs.Root.{chunkBytes, nodeBytes, chunkCount, Node, chunks, leaf, parent, up, top, root}
 use Rattle.treerule.proofs.Pieces.{length-pieces, pieces-front}
 use Rattle.treerule.proofs.Levels.{top-one, top-up}
-use Rattle.tree.specs.code.Held.{pairBytes, held, putNode, levelled}
-use Rattle.tree.proofs.Held.{held-put, flat-held, held-levelled, length-levelled, up-pieces}
+use Rattle.tree.specs.code.Held.{pairBytes, held, nodeAt, putNode, levelled}
+use Rattle.tree.proofs.Held.{held-put, flat-held, held-levelled, length-levelled, up-pieces, first-lone, first-pair}
 
 -- one node more at the end of those that are done, and one fewer in the rest
 moved : (i : ℕ) (node : Node) (buffer : List ℕ) (rest : List Node) →
@@ -32,7 +32,7 @@ pub record Raised (old : List ℕ) (count : ℕ) (buffer : List ℕ) (j : ℕ) :
   pub long : length buffer ≡ length old
   pub within : 2 * j ≤ count + 1
   pub kept : drop (j * nodeBytes) buffer ≡ drop (j * nodeBytes) old
-  pub nodes : held j buffer ++ up (held (count - 2 * j) (drop (pairBytes * j) buffer)) ≡ up (held count old)
+  pub nodes : held j buffer ++ up (held (count - 2 * j) (drop (2 * j * nodeBytes) buffer)) ≡ up (held count old)
 
 pub raised-none : (old : List ℕ) (count : ℕ) → Raised old count old 0
 unfolding pieces
@@ -40,16 +40,16 @@ raised-none old count = record { long = refl; within = omega arith; kept = refl;
 
 raised-one : (old : List ℕ) (count : ℕ) (buffer : List ℕ) (j : ℕ) {node : Node} →
     count * nodeBytes ≤ length old → 2 * j < count → Raised old count buffer j → length node ≡ nodeBytes →
-    node ≡ getD (up (held (count - 2 * j) (drop (pairBytes * j) buffer))) 0 [] → Raised old count (putNode j node buffer) (j + 1)
+    node ≡ getD (up (held (count - 2 * j) (drop (2 * j * nodeBytes) buffer))) 0 [] → Raised old count (putNode j node buffer) (j + 1)
 raised-one old count buffer j {node} room h r whole is =
-    let at = pairBytes * j in
+    let at = 2 * j * nodeBytes in
     let k = count - 2 * j in
     let fewer : count - 2 * (j + 1) ≡ k - 2 = omega arith in
-    let on : pairBytes * (j + 1) ≡ at + pairBytes = omega arith in
+    let on : 2 * (j + 1) * nodeBytes ≡ at + pairBytes = omega arith in
     let next : (j + 1) * nodeBytes ≡ j * nodeBytes + nodeBytes = omega arith in
     let space : j * nodeBytes + nodeBytes ≤ length buffer = omega (arith, r .long) in
-    let rest : drop (pairBytes * (j + 1)) (putNode j node buffer) ≡ drop pairBytes (drop at buffer) =
-    drop-put (j * nodeBytes) nodeBytes node buffer whole space (pairBytes * (j + 1)) (omega arith)
+    let rest : drop (2 * (j + 1) * nodeBytes) (putNode j node buffer) ≡ drop pairBytes (drop at buffer) =
+    drop-put (j * nodeBytes) nodeBytes node buffer whole space (2 * (j + 1) * nodeBytes) (omega arith)
     ∙ ap (λ (n : ℕ). drop n buffer) on ∙ sym (drop-drop pairBytes at buffer) in
     record {
       long = length-put-in (j * nodeBytes) nodeBytes node buffer whole space ∙ r .long;
@@ -70,15 +70,29 @@ raised-one old count buffer j {node} room h r whole is =
           ∙ r .nodes;
     }
 
--- the same as the code has it: the rest is lent as a part
-pub raised-more : (old : List ℕ) (count : ℕ) (buffer : List ℕ) (j : ℕ) {node : Node} {new : List ℕ} →
-    count * nodeBytes ≤ length old → 2 * j < count → Raised old count buffer j → length node ≡ nodeBytes →
-    node ≡ getD (up (held (count - 2 * j) (partTo (pairBytes * j) buffer))) 0 [] →
+-- as the code has it: two nodes have their parent
+pub raised-pair : (old : List ℕ) (count : ℕ) (buffer : List ℕ) (j : ℕ) {left right node : Node} {new : List ℕ} →
+    count * nodeBytes ≤ length old → 2 * j + 1 < count → Raised old count buffer j → length node ≡ nodeBytes →
+    left ≡ nodeAt (2 * j) buffer → right ≡ nodeAt (2 * j + 1) buffer → node ≡ parent left right →
     new ≡ putNode j node buffer → Raised old count new (j + 1)
-raised-more old count buffer j room h r whole is put =
+raised-pair old count buffer j room h r whole isLeft isRight is put =
+    let at = 2 * j * nodeBytes in
+    let second : (2 * j + 1) * nodeBytes ≡ at + nodeBytes = omega arith in
+    subst⁻¹ (λ (b : List ℕ). Raised old count b (j + 1)) put
+    (raised-one old count buffer j room (omega arith) r whole
+    (is
+    ∙ ap₂ parent isLeft
+    (isRight ∙ ap (λ (n : ℕ). take nodeBytes (drop n buffer)) second ∙ ap (take nodeBytes) (sym (drop-drop nodeBytes at buffer)))
+    ∙ sym (first-pair nodeBytes (count - 2 * j) (drop at buffer) (omega arith))))
+
+-- and a lone last node is itself
+pub raised-lone : (old : List ℕ) (count : ℕ) (buffer : List ℕ) (j : ℕ) {node : Node} {new : List ℕ} →
+    count * nodeBytes ≤ length old → 2 * j < count → count ≤ 2 * j + 1 → Raised old count buffer j → length node ≡ nodeBytes →
+    node ≡ nodeAt (2 * j) buffer → new ≡ putNode j node buffer → Raised old count new (j + 1)
+raised-lone old count buffer j room h last r whole is put =
     subst⁻¹ (λ (b : List ℕ). Raised old count b (j + 1)) put
     (raised-one old count buffer j room h r whole
-    (is ∙ ap (λ (l : List ℕ). getD (up (held (count - 2 * j) l)) 0 []) (part-all (pairBytes * j) buffer)))
+    (is ∙ sym (first-lone nodeBytes (count - 2 * j) (drop (2 * j * nodeBytes) buffer) (omega arith))))
 
 -- all of them: what was held is replaced by the level above it
 pub raised-all : (old buffer : List ℕ) (j : ℕ) → length old / nodeBytes ≤ 2 * j → Raised old (length old / nodeBytes) buffer j →
@@ -91,7 +105,7 @@ raised-all old buffer j h r =
     let room : j * nodeBytes ≤ length buffer = omega (arith, r .long, r .within) in
     let nodes : held j buffer ≡ up (held count old) =
     sym (append-nil (held j buffer))
-    ∙ ap (λ (n : ℕ). held j buffer ++ up (held n (drop (pairBytes * j) buffer))) (sym z)
+    ∙ ap (λ (n : ℕ). held j buffer ++ up (held n (drop (2 * j * nodeBytes) buffer))) (sym z)
     ∙ r .nodes in
     let front : take (j * nodeBytes) buffer ≡ above = sym (flat-held j buffer room) ∙ ap flatten nodes in
     let long : j * nodeBytes ≡ length above = sym (length-take-le (j * nodeBytes) buffer room) ∙ ap length front in

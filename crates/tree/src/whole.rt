@@ -1,13 +1,13 @@
 // The tree of a whole map: its leaves in a buffer of nodes, then one level after the other in their place, up to the root.
 ghost use mathlib.Core.Path.{_≡_};
-ghost use mathlib.Core.List.{[], map as each};
+ghost use mathlib.Core.List.{map as each};
 ghost use Prim.Native.Nat.{_+_, _*_, _<_, _≤_};
-ghost use lib.ListN.{length, take, getD};
+ghost use lib.ListN.{length, take};
 ghost use Rattle.answers.specs.Numbers.{numberOf};
 ghost use Rattle.fips.specs.Bits.{pieces};
 ghost use Rattle.tree.specs.code.Held.{held, nodeAt, putNode, levelled};
 ghost use Rattle.tree.specs.Tree.{treeLimit, Trees};
-ghost use Rattle.treerule.specs.Root.{chunkBytes, nodeBytes, leaf as leafOf, up, top, root as rootOf};
+ghost use Rattle.treerule.specs.Root.{chunkBytes, nodeBytes, leaf as leafOf, top, root as rootOf};
 use crate::node::CHUNK;
 use crate::node::NODE;
 use crate::node::leaf;
@@ -24,9 +24,6 @@ const ROOM: usize = LIMIT / CHUNK * NODE;
 
 // What is added to round bytes up to whole chunks.
 const UP: usize = CHUNK - 1;
-
-// The bytes of two nodes, which have one parent.
-const PAIR: usize = 2 * NODE;
 
 fn node_at(nodes: &[u8], i: usize) -> [u8; NODE]
     requires { ⌜ i * nodeBytes + nodeBytes ≤ length (now nodes) ⌝ }
@@ -49,32 +46,24 @@ fn put_node(nodes: &mut [u8], i: usize, node: [u8; NODE])
     put_front(&mut nodes[start..end], &node);
 }
 
-// The rule of a level: the first node of the level above `count` nodes. One alone is carried up unchanged.
-fn first_above(nodes: &[u8], count: usize) -> [u8; NODE]
-    requires { ⌜ (0 < count) × (count * nodeBytes ≤ length (now nodes)) ⌝ }
-    ensures { λ r. ⌜ r ≡ getD (up (held count (now (nodes .entry)))) 0 [] ⌝ }
-{
-    let left = node_at(nodes, 0);
-    if count == 1 {
-        return left;
-    }
-    let right = node_at(nodes, 1);
-    parent(left, right)
-}
-
-// One level up from all the nodes that the bytes hold, in place: node j of the level above takes the place of a node that is read no more.
-// What stands behind that level is left as it was.
+// One level up from all the nodes that the bytes hold, in place: each parent takes the place of a node that is read no more, and a lone last
+// node is carried up unchanged. What stands behind that level is left as it was.
 pub fn level(nodes: &mut [u8])
     ensures { λ _. ⌜ now (nodes .exit) ≡ levelled (now (nodes .entry)) ⌝ }
 {
     let count = nodes.len() / NODE;
     let mut j = 0;
-    while 2 * j < count {
-        let start = PAIR * j;
-        let node = first_above(&nodes[start..], count - 2 * j);
-        put_node(nodes, j, node);
+    while 2 * j + 1 < count {
+        let left = node_at(nodes, 2 * j);
+        let right = node_at(nodes, 2 * j + 1);
+        put_node(nodes, j, parent(left, right));
         j += 1;
     }
+    if count <= 2 * j {
+        return;
+    }
+    let lone = node_at(nodes, 2 * j);
+    put_node(nodes, j, lone);
 }
 
 // Level after level until one node is left, at the front.
