@@ -27,7 +27,7 @@
  *
  * Null: no pointer may be null, not even that of an empty buffer. Where the count is 0, pass the address of anything.
  *
- * Stack: dw_tree takes up to 36,768 bytes of it, dw_close 2,896, dw_hash 2,512, dw_add 2,432, dw_load 1,992, dw_open 1,288, dw_save 1,280,
+ * Stack: dw_tree takes up to 36,784 bytes of it, dw_close 2,896, dw_hash 2,512, dw_add 2,432, dw_load 1,992, dw_open 1,288, dw_save 1,280,
  * dw_drop 1,240, dw_ask 1,128, dw_judge 424, dw_list_put 408, dw_lookup 408, dw_list_start 32 and dw_lay_out 32: measured on
  * x86-64 and on Arm, the larger of both. A thread with a small stack has to have as much to spare; two macros below have it in round
  * numbers.
