@@ -1,11 +1,10 @@
 -- Nodes held back to back in a buffer. One put behind those held: `held-put`; the bytes that they are: `flat-held`, and the nodes of bytes
--- that are theirs: `held-flat`; the level above them, at the front: `held-levelled`. The first node of that level: `first-lone`,
--- `first-pair`, and what follows it: `up-pieces`.
+-- that are theirs: `held-flat`; the level above them, at the front: `held-levelled`, and what it begins with: `up-lone`, `up-pair`.
 use Prim.Native.Nat.{ℕ, zero, suc, _+_, _-_, _*_, _/_, _<_, _≤_}
 use mathlib.Core.List.{List, [], _∷_, _++_, append-assoc, flatten}
 use mathlib.Core.Path.{_≡_, refl, sym, ap, ap₂, _∙_}
 use native.Mathlib.Omega.{arith}
-use lib.ListN.{length, take, drop, getD, length-append, length-drop, take-append-drop}
+use lib.ListN.{length, take, drop, length-append, length-drop, take-append-drop}
 use lib.Seq.{length-take-le, take-at, drop-at, drop-drop}
 use Rattle.slices.specs.AtFront.{atFront}
 use Rattle.slices.proofs.AtFront.{length-atFront, atFront-room}
@@ -84,22 +83,16 @@ held-levelled count part rest long =
     ∙ ap (held (length above)) (append-assoc (flatten above) (drop (length (flatten above)) part) rest)
     ∙ held-flat above (drop (length (flatten above)) part ++ rest) whole
 
--- the first node of it, and the rest of it above the rest of the nodes, where these are pieces
-pub up-pieces : (n k : ℕ) (xs : List ℕ) → 0 < k →
-    up (pieces n k xs) ≡ getD (up (pieces n k xs)) 0 [] ∷ up (pieces n (k - 2) (drop (n + n) xs))
+-- what it begins with, and the rest of it above the rest of the nodes, where these are pieces: a lone one, or two
+pub up-lone : (n k : ℕ) (xs : List ℕ) → k ≡ 1 → up (pieces n k xs) ≡ take n xs ∷ up (pieces n (k - 2) (drop (n + n) xs))
 unfolding up pieces
-up-pieces n zero xs h = absurd (omega arith)
-up-pieces n (suc zero) xs h = refl
-up-pieces n (suc (suc k)) xs h =
+up-lone n k xs e = rw e
+
+pub up-pair : (n k : ℕ) (xs : List ℕ) → 1 < k →
+    up (pieces n k xs) ≡ parent (take n xs) (take n (drop n xs)) ∷ up (pieces n (k - 2) (drop (n + n) xs))
+unfolding up pieces
+up-pair n zero xs h = absurd (omega arith)
+up-pair n (suc zero) xs h = absurd (omega arith)
+up-pair n (suc (suc k)) xs h =
     let e : suc (suc k) - 2 ≡ k = omega arith in
     rw (e, ← drop-drop n n xs)
-
-pub first-lone : (n k : ℕ) (xs : List ℕ) → k ≡ 1 → getD (up (pieces n k xs)) 0 [] ≡ take n xs
-unfolding up pieces
-first-lone n k xs e = rw e
-
-pub first-pair : (n k : ℕ) (xs : List ℕ) → 1 < k → getD (up (pieces n k xs)) 0 [] ≡ parent (take n xs) (take n (drop n xs))
-unfolding up pieces
-first-pair n zero xs h = absurd (omega arith)
-first-pair n (suc zero) xs h = absurd (omega arith)
-first-pair n (suc (suc k)) xs h = refl

@@ -2,12 +2,12 @@
 -- What is done and what is left decide: the nodes written so far, and the nodes that the rest of the bytes gives. `root-steps` has all of
 -- it together.
 use Prim.Native.Nat.{ℕ, suc, _+_, _-_, _*_, _/_, _<_, _≤_}
-use mathlib.Core.List.{List, [], _∷_, _++_, map, append-nil, flatten}
+use mathlib.Core.List.{List, _∷_, _++_, map, append-nil, flatten}
 use mathlib.Core.Path.{_≡_, refl, sym, ap, ap₂, subst⁻¹, _∙_}
 use native.Mathlib.Nat.{sub-zero}
 use native.Mathlib.Numerals.{add-one}
 use native.Mathlib.Omega.{arith}
-use lib.ListN.{length, take, drop, getD, length-append, length-drop, take-append-drop}
+use lib.ListN.{length, take, drop, length-append, length-drop, take-append-drop}
 use lib.Seq.{append-snoc, drop-drop, length-take-le}
 use Rattle.slices.proofs.AtFront.{atFront-room}
 use Rattle.slices.proofs.Parts.{partTo, part-all, length-put-in, drop-put}
@@ -16,7 +16,7 @@ use Rattle.treerule.specs.Root.{chunkBytes, nodeBytes, chunkCount, Node, chunks
 use Rattle.treerule.proofs.Pieces.{length-pieces, pieces-front}
 use Rattle.treerule.proofs.Levels.{top-one, top-up}
 use Rattle.tree.specs.code.Held.{pairBytes, held, nodeAt, putNode, levelled}
-use Rattle.tree.proofs.Held.{held-put, flat-held, held-levelled, length-levelled, up-pieces, first-lone, first-pair}
+use Rattle.tree.proofs.Held.{held-put, flat-held, held-levelled, length-levelled, up-lone, up-pair}
 
 -- one node more at the end of those that are done, and one fewer in the rest
 moved : (i : ℕ) (node : Node) (buffer : List ℕ) (rest : List Node) →
@@ -38,20 +38,25 @@ pub raised-none : (old : List ℕ) (count : ℕ) → Raised old count old 0
 unfolding pieces
 raised-none old count = record { long = refl; within = omega arith; kept = refl; nodes = rw sub-zero }
 
-raised-one : (old : List ℕ) (count : ℕ) (buffer : List ℕ) (j : ℕ) {node : Node} →
-    count * nodeBytes ≤ length old → 2 * j < count → Raised old count buffer j → length node ≡ nodeBytes →
-    node ≡ getD (up (held (count - 2 * j) (drop (2 * j * nodeBytes) buffer))) 0 [] → Raised old count (putNode j node buffer) (j + 1)
-raised-one old count buffer j {node} room h r whole is =
+-- one more, which the level above the rest begins with
+raised-more : (old : List ℕ) (count : ℕ) (buffer : List ℕ) (j : ℕ) {node first : Node} {new : List ℕ} →
+    let k = count - 2 * j in
+    let left = drop (2 * j * nodeBytes) buffer in
+    count * nodeBytes ≤ length old → 2 * j < count → Raised old count buffer j → length node ≡ nodeBytes → node ≡ first →
+    up (held k left) ≡ first ∷ up (held (k - 2) (drop pairBytes left)) → new ≡ putNode j node buffer → Raised old count new (j + 1)
+raised-more old count buffer j {node} {first} room h r whole is begins put =
     let at = 2 * j * nodeBytes in
     let k = count - 2 * j in
+    let left = drop pairBytes (drop at buffer) in
     let fewer : count - 2 * (j + 1) ≡ k - 2 = omega arith in
     let on : 2 * (j + 1) * nodeBytes ≡ at + pairBytes = omega arith in
     let next : (j + 1) * nodeBytes ≡ j * nodeBytes + nodeBytes = omega arith in
     let space : j * nodeBytes + nodeBytes ≤ length buffer = omega (arith, r .long) in
-    let rest : drop (2 * (j + 1) * nodeBytes) (putNode j node buffer) ≡ drop pairBytes (drop at buffer) =
+    let rest : drop (2 * (j + 1) * nodeBytes) (putNode j node buffer) ≡ left =
     drop-put (j * nodeBytes) nodeBytes node buffer whole space (2 * (j + 1) * nodeBytes) (omega arith)
     ∙ ap (λ (n : ℕ). drop n buffer) on ∙ sym (drop-drop pairBytes at buffer) in
-    record {
+    subst⁻¹ (λ (b : List ℕ). Raised old count b (j + 1)) put
+    (record {
       long = length-put-in (j * nodeBytes) nodeBytes node buffer whole space ∙ r .long;
       within = omega arith;
       kept =
@@ -63,36 +68,30 @@ raised-one old count buffer j {node} room h r whole is =
           ∙ ap (λ (n : ℕ). drop n old) (sym next);
       nodes =
           ap₂ (λ (n : ℕ) (l : List ℕ). held (j + 1) (putNode j node buffer) ++ up (held n l)) fewer rest
-          ∙ moved j node buffer (up (held (k - 2) (drop pairBytes (drop at buffer)))) whole space
-          ∙ ap (λ (ns : List Node). held j buffer ++ ns)
-          (ap (λ (n : Node). n ∷ up (held (k - 2) (drop pairBytes (drop at buffer)))) is
-          ∙ sym (up-pieces nodeBytes k (drop at buffer) (omega arith)))
+          ∙ moved j node buffer (up (held (k - 2) left)) whole space
+          ∙ ap (λ (ns : List Node). held j buffer ++ ns) (ap (λ (n : Node). n ∷ up (held (k - 2) left)) is ∙ sym begins)
           ∙ r .nodes;
-    }
+    })
 
--- as the code has it: two nodes have their parent
-pub raised-pair : (old : List ℕ) (count : ℕ) (buffer : List ℕ) (j : ℕ) {left right node : Node} {new : List ℕ} →
+-- two nodes have their parent
+pub raised-pair : (old : List ℕ) (count : ℕ) (buffer : List ℕ) (j : ℕ) {l r node : Node} {new : List ℕ} →
     count * nodeBytes ≤ length old → 2 * j + 1 < count → Raised old count buffer j → length node ≡ nodeBytes →
-    left ≡ nodeAt (2 * j) buffer → right ≡ nodeAt (2 * j + 1) buffer → node ≡ parent left right →
-    new ≡ putNode j node buffer → Raised old count new (j + 1)
-raised-pair old count buffer j room h r whole isLeft isRight is put =
+    l ≡ nodeAt (2 * j) buffer → r ≡ nodeAt (2 * j + 1) buffer → node ≡ parent l r → new ≡ putNode j node buffer →
+    Raised old count new (j + 1)
+raised-pair old count buffer j room h raised whole isLeft isRight is put =
     let at = 2 * j * nodeBytes in
     let second : (2 * j + 1) * nodeBytes ≡ at + nodeBytes = omega arith in
-    subst⁻¹ (λ (b : List ℕ). Raised old count b (j + 1)) put
-    (raised-one old count buffer j room (omega arith) r whole
-    (is
-    ∙ ap₂ parent isLeft
-    (isRight ∙ ap (λ (n : ℕ). take nodeBytes (drop n buffer)) second ∙ ap (take nodeBytes) (sym (drop-drop nodeBytes at buffer)))
-    ∙ sym (first-pair nodeBytes (count - 2 * j) (drop at buffer) (omega arith))))
+    let behind = ap (λ (n : ℕ). take nodeBytes (drop n buffer)) second ∙ ap (take nodeBytes) (sym (drop-drop nodeBytes at buffer)) in
+    raised-more old count buffer j room (omega arith) raised whole (is ∙ ap₂ parent isLeft (isRight ∙ behind))
+    (up-pair nodeBytes (count - 2 * j) (drop at buffer) (omega arith)) put
 
--- and a lone last node is itself
+-- a lone last node is carried up
 pub raised-lone : (old : List ℕ) (count : ℕ) (buffer : List ℕ) (j : ℕ) {node : Node} {new : List ℕ} →
     count * nodeBytes ≤ length old → 2 * j < count → count ≤ 2 * j + 1 → Raised old count buffer j → length node ≡ nodeBytes →
     node ≡ nodeAt (2 * j) buffer → new ≡ putNode j node buffer → Raised old count new (j + 1)
-raised-lone old count buffer j room h last r whole is put =
-    subst⁻¹ (λ (b : List ℕ). Raised old count b (j + 1)) put
-    (raised-one old count buffer j room h r whole
-    (is ∙ sym (first-lone nodeBytes (count - 2 * j) (drop (2 * j * nodeBytes) buffer) (omega arith))))
+raised-lone old count buffer j room h last raised whole is put =
+    raised-more old count buffer j room h raised whole is
+    (up-lone nodeBytes (count - 2 * j) (drop (2 * j * nodeBytes) buffer) (omega arith)) put
 
 -- all of them: what was held is replaced by the level above it
 pub raised-all : (old buffer : List ℕ) (j : ℕ) → length old / nodeBytes ≤ 2 * j → Raised old (length old / nodeBytes) buffer j →

@@ -46,8 +46,8 @@ fn put_node(nodes: &mut [u8], i: usize, node: [u8; NODE])
     put_front(&mut nodes[start..end], &node);
 }
 
-// One level up from all the nodes that the bytes hold, in place: each parent takes the place of a node that is read no more, and a lone last
-// node is carried up unchanged. What stands behind that level is left as it was.
+// One level up from all the nodes that the bytes hold, in place: each parent takes the place of a node that is read no more. A lone last
+// node is carried up unchanged, and what stands behind the level is left as it was.
 pub fn level(nodes: &mut [u8])
     ensures { λ _. ⌜ now (nodes .exit) ≡ levelled (now (nodes .entry)) ⌝ }
 {
