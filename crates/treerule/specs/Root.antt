@@ -1,5 +1,5 @@
 -- The chunk tree of a list of bytes, SPEC, "Chunk tree": leaves over its chunks, and levels of parents up to the root.
--- Main definition: `root`. The rule of a level is `up`, and nothing else says it.
+-- Main definition: `root`. The rule of a level is `up`, and nothing else says it. Leaf and parent are RFC 6962's, section 2.1.
 use Prim.Native.Nat.{ℕ, zero, suc, _+_, _-_, _/_}
 use mathlib.Core.List.{List, [], _∷_, _++_, map}
 use lib.ListN.{length, getD}
@@ -33,11 +33,11 @@ chunkCount n = (n + (chunkBytes - 1)) / chunkBytes
 unfoldable pub chunks : List ℕ → List (List ℕ)
 chunks bytes = pieces chunkBytes (chunkCount (length bytes)) bytes
 
--- a chunk's node: its message begins with 0, so that it is never a parent's
+-- §2.1: a chunk's node; its message begins with 0, so that it is never a parent's
 unfoldable pub leaf : List ℕ → Node
 leaf chunk = sha256 (0 ∷ chunk)
 
--- the node above two
+-- §2.1: the node above two
 unfoldable pub parent : Node → Node → Node
 parent left right = sha256 (1 ∷ (left ++ right))
 

@@ -8,7 +8,7 @@ use lib.Dec.{ltb}
 use lib.ListN.{length, take, drop}
 use Rattle.treerule.specs.Root.{Node, sha256, leaf, parent}
 
--- `hash` keeps the rules: of no entry, of one and of more. A power of two k is the largest one below n where k < n ≤ 2k
+-- `hash` keeps the rules of §2.1: of no entry, of one and of more. A power of two k is the largest one below n where k < n ≤ 2k
 pub record Rfc6962 {A : Type 0} (single : A → Node) (hash : List A → Node) : Type 0 where
   pub none : hash [] ≡ sha256 []
   pub one : (entry : A) → hash (entry ∷ []) ≡ single entry
@@ -24,7 +24,7 @@ powerTo (suc j) n = cond (ltb (2 ^ suc j) n) (2 ^ suc j) (powerTo j n)
 unfoldable pub powerBelow : ℕ → ℕ
 powerBelow n = powerTo n n
 
--- one node is itself, and more are the parent of their two parts, each split likewise, at most d deep
+-- one node is itself, and more are the parent of their two parts, each split likewise; at most d deep
 unfoldable pub splitIn : ℕ → List Node → Node
 splitIn zero ns = sha256 []
 splitIn (suc d) [] = sha256 []
@@ -34,7 +34,7 @@ splitIn (suc d) (l ∷ r ∷ ns) =
     let k = powerBelow (length all) in
     parent (splitIn d (take k all)) (splitIn d (drop k all))
 
--- each part has fewer nodes, so that it goes no deeper than there are nodes
+-- a part has fewer nodes, so that no split goes deeper than there are nodes
 unfoldable pub split : List Node → Node
 split ns = splitIn (length ns) ns
 
