@@ -26,10 +26,10 @@
  * buffer of a call before in this batch, as it was left and where it lies. Lent bytes, outputs and buffers lie anywhere: the first of a
  * call s mod 16 bytes past a multiple of 16, where s is the number of shifts, the second s / 16 mod 16, and so on.
  *
- * The answer to a call is its number, 0 for a part of a tree, which has none; for ask and lookup their two values; for a call with an output the GUARD bytes before it, the output
- * and the GUARD bytes after it, and for one with a buffer likewise, but at most BUFFER of its bytes; the count of bytes lent to be read,
- * with the guards about them, that are not as they were; and the count of words of the memory that are not as they were before the call,
- * each with its place and its value.
+ * The answer to a call is its number, 0 for a part of a tree, which has none; for ask and lookup their two values; for a call with an
+ * output the GUARD bytes before it, the output and the GUARD bytes after it, and for one with a buffer likewise, but at most BUFFER of its
+ * bytes; the count of bytes lent to be read, with the guards about them, that are not as they were; and the count of words of the memory
+ * that are not as they were before the call, each with its place and its value.
  *
  * A command that cannot be done ends the driver with status 3: then the sender is at fault.
  */

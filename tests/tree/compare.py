@@ -1,7 +1,7 @@
 """Chunk trees through the C interface, against RFC 6962's splits written in rules.py beside this: tests/tree/run runs it.
 
-Trees of every count of chunks to 40, of lengths about each power of two, of the longest map and past it, and every short output; the pair of
-maps that had one root before request 03; and leaf, parent and level by themselves, in parts.py.
+Trees of every count of chunks to 40, of lengths about each power of two, of the longest map and past it, and every short output; the pair
+of maps that had one root before request 03; and leaf, parent and level by themselves, in parts.py.
 """
 import os
 import random
@@ -69,7 +69,7 @@ where = random.Random(f"{seed} places")
 three = rng.randbytes(3 * CHUNK)
 four = three + three[2 * CHUNK :]
 apart = old_tree(three) == old_tree(four) and tree(three) != tree(four)
-print("a chunk more, the last again, has another root, and had the same" if apart else "not ok: a chunk more, the last again: one root")
+print(("ok" if apart else "not ok") + ": 3,072 bytes and the 4,096 that repeat their last chunk: two roots, and one by the old rule")
 
 passed, failed = compare(cases())
 print(f"{passed + apart} passed, {failed + (not apart)} failed")

@@ -1,4 +1,5 @@
-"""The parts of a chunk tree, leaf, parent and level, through crate treeparts: RFC 6962's published trees, and bytes and nodes by chance.
+"""The parts of a chunk tree, leaf, parent and level, through crate treeparts: the trees published for RFC 6962, and bytes and nodes by
+chance.
 
 A case is calls with their replies. What a call is expected to make is lent to the next, so that where a case passes the compiled parts have
 made all of it, and its last reply is what was published, or the node by RFC 6962's splits.
@@ -26,6 +27,7 @@ def vectors():
             paths[int(words[0]), int(words[1])] = [bytes.fromhex(node) for node in words[2].split(",") if node != "-"]
         else:
             assert kind == "#"
+    assert (len(entries), len(roots), len(paths)) == (8, 9, 5), "a line is missing"
     return entries, roots, paths
 
 
@@ -55,8 +57,9 @@ class Parts:
             nodes = above
 
     def fold(self, place, nodes, path, root):
-        """RFC 6962, section 2.1.1, from the node at a place of so many to the root: the parents on the way, the last of which is the root."""
+        """RFC 6962, section 2.1.1, from the node at a place to the root: the parents on the way, the last of which is the root."""
         if len(nodes) == 1:
+            assert not path
             return nodes[0], []
         k = largest_below(len(nodes))
         low = place < k
@@ -66,7 +69,8 @@ class Parts:
         return made, calls + [self.part("parent", pair, made)]
 
     def published(self):
-        """Every line of the file but that of no leaves: a leaf, a root over the leaves before it, a path, and each node of a path."""
+        """Every line of the file but the root of no leaves: a leaf, a root over the first leaves, a path from its leaf, and each of its
+        nodes."""
         entries, roots, paths = vectors()
         leaves = [leaf(entry) for entry in entries]
         leaves[0] = roots[1]
@@ -76,9 +80,9 @@ class Parts:
             if n:
                 yield list(self.rise(leaves[:n], root))
         for (place, n), path in paths.items():
-            if n > 1:
-                yield self.fold(place, leaves[:n], path, roots[n])[1]
-                yield from (list(self.rise(run, node)) for run, node in zip(beside(place, leaves[:n]), path))
+            start = self.part("leaf", (entries[place],), leaves[place] if n > 1 else roots[n])
+            yield [start] + self.fold(place, leaves[:n], path, roots[n])[1]
+            yield from (list(self.rise(run, node)) for run, node in zip(beside(place, leaves[:n]), path))
 
     def by_chance(self):
         rng = self.rng

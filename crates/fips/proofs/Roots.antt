@@ -30,7 +30,7 @@ zero-pow : (e : ℕ) → e ≢ 0 → 0 ^ e ≡ 0
 zero-pow zero h = absurd (h refl)
 zero-pow (suc e) h = simp (pow-suc, mul-zero)
 
-lt-two-pow : (n : ℕ) → n < 2 ^ n
+pub lt-two-pow : (n : ℕ) → n < 2 ^ n
 lt-two-pow zero = omega arith
 lt-two-pow (suc n) = rw two-pow-succ (omega (arith, lt-two-pow n))
 

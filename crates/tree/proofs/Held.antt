@@ -1,5 +1,5 @@
--- Nodes held back to back in a buffer. One put behind those held: `held-put`; the bytes that they are: `flat-held`, and the nodes of bytes
--- that are theirs: `held-flat`; the level above them, at the front: `held-levelled`, and what it begins with: `up-lone`, `up-pair`.
+-- Nodes held back to back in a buffer: one put behind those held (`held-put`), their bytes (`flat-held`), and what bytes hold that are made
+-- of nodes (`held-flat`). The level above them, put at the front: `held-levelled`, and what it begins with: `up-lone`, `up-pair`.
 use Prim.Native.Nat.{ℕ, zero, suc, _+_, _-_, _*_, _/_, _<_, _≤_}
 use mathlib.Core.List.{List, [], _∷_, _++_, append-assoc, flatten}
 use mathlib.Core.Path.{_≡_, refl, sym, ap, ap₂, _∙_}

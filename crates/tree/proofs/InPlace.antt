@@ -1,6 +1,6 @@
 -- A level computed in place, the leaves put one after the other, and level after level: the invariants of the loops, and their turns.
--- What is done and what is left decide: the nodes written so far, and the nodes that the rest of the bytes gives. `root-steps` has all of
--- it together.
+-- What is done and what is left decide: the nodes written so far, and the nodes that the rest of the bytes gives. `root-steps`: the leaves
+-- of all chunks, and the node above them, make the root.
 use Prim.Native.Nat.{ℕ, suc, _+_, _-_, _*_, _/_, _<_, _≤_}
 use mathlib.Core.List.{List, _∷_, _++_, map, append-nil, flatten}
 use mathlib.Core.Path.{_≡_, refl, sym, ap, ap₂, subst⁻¹, _∙_}

@@ -1,15 +1,15 @@
--- Levels of a chunk tree. So many that 2^k reaches the count of nodes end in one node, the top: `climb-top`. The top of a level is the top
--- of the next, `top-up`; and of more than 2^j nodes, but not more than twice as many, it is the parent of the top of the first 2^j and the
--- top of the others: `top-more`.
+-- Levels of a chunk tree. k levels, where 2^k is at least the count of nodes, end in one node, the top: `climb-top`. The top of a level is
+-- the top of the next, `top-up`; and of more than 2^j nodes, but not more than twice as many, it is the parent of the top of the first 2^j
+-- and the top of the others: `top-more`.
 use Prim.Native.Nat.{ℕ, zero, suc, _+_, _-_, _*_, _/_, _%_, _^_, _<_, _≤_}
 use mathlib.Core.List.{List, [], _∷_, _++_, map}
 use mathlib.Core.Path.{_≡_, refl, sym, ap, ap₂, _∙_}
 use native.Mathlib.Omega.{arith}
 use lib.ListN.{length, getD, take, drop, length-drop, take-append-drop}
 use lib.Seq.{length-take-le}
+use Rattle.fips.proofs.Roots.{lt-two-pow}
 use Rattle.treerule.specs.Root.{nodeBytes, Node, sha256, leaf, parent, up, climb, top}
 use Rattle.treerule.proofs.Hashes.{length-sha256, length-parent, length-leaf}
-use Rattle.treerule.proofs.Powers.{below-two-pow}
 
 -- ---- one level
 
@@ -28,7 +28,7 @@ up-append (l ∷ r ∷ xs) ys even = ap (λ (ns : List Node). parent l r ∷ ns)
 
 -- ---- the climb
 
--- the last of k + 1 levels, for the first
+-- one level and then k, or k and then one
 climb-up : (k : ℕ) (ns : List Node) → climb k (up ns) ≡ up (climb k ns)
 unfolding climb
 climb-up zero ns = refl
@@ -79,7 +79,7 @@ unfolding top first-node
 climb-top k ns some few =
     let all = length ns in
     let here = one-node (climb k ns) (climb-ends k ns some few) in
-    let there = one-node (climb all ns) (climb-ends all ns some (omega (arith, below-two-pow all))) in
+    let there = one-node (climb all ns) (climb-ends all ns some (omega (arith, lt-two-pow all))) in
     here
     ∙ sym (climb-lone all (first-node (climb k ns)))
     ∙ ap (climb all) (sym here)
@@ -91,7 +91,7 @@ pub top-up : (ns : List Node) → 0 < length ns → top (up ns) ≡ top ns
 unfolding climb
 top-up ns some =
     let k = length ns in
-    let fits : length ns ≤ 2 ^ k = omega (arith, below-two-pow k) in
+    let fits : length ns ≤ 2 ^ k = omega (arith, lt-two-pow k) in
     ap (λ (l : List Node). getD l 0 (sha256 []))
     (sym (climb-top k (up ns) (omega (arith, length-up ns)) (omega (arith, length-up ns))) ∙ climb-top (suc k) ns some (omega arith))
 

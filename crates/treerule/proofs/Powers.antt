@@ -1,15 +1,12 @@
--- Powers of two: every number is below its own, `below-two-pow`, and `powerBelow` is the largest one below a number, `power-below`.
+-- `powerBelow` is the largest power of two below a number, from 2 on: `power-below`.
 use Prim.Native.Nat.{ℕ, zero, suc, _*_, _^_, _<_, _≤_}
 use mathlib.Core.Bool.{Bool, true, false, cond}
 use mathlib.Core.Path.{_≡_, refl}
 use native.Mathlib.Omega.{arith}
 use lib.Dec.{ltb}
 use borrow.Author.Tests.{ltb-true, ltb-false}
+use Rattle.fips.proofs.Roots.{lt-two-pow}
 use Rattle.treerule.specs.Split.{powerTo, powerBelow}
-
-pub below-two-pow : (n : ℕ) → n < 2 ^ n
-below-two-pow zero = omega arith
-below-two-pow (suc n) = omega (arith, below-two-pow n)
 
 -- k is the largest power of two below n
 pub record Largest (n k : ℕ) : Type 0 where
@@ -31,4 +28,4 @@ power-to (suc j) n many few = larger j n (ltb (2 ^ suc j) n) refl few (power-to 
 
 pub power-below : (n : ℕ) → 1 < n → Largest n (powerBelow n)
 unfolding powerBelow
-power-below n many = power-to n n many (omega (arith, below-two-pow n))
+power-below n many = power-to n n many (omega (arith, lt-two-pow n))

@@ -7,9 +7,10 @@ use mathlib.Core.Path.{_≡_, refl, sym, ap, ap₂, _∙_}
 use native.Mathlib.Omega.{arith}
 use lib.ListN.{length, take, drop, length-drop, length-map}
 use lib.Seq.{length-take-le}
+use Rattle.fips.proofs.Roots.{lt-two-pow}
 use Rattle.treerule.specs.Root.{Node, leaf, parent, climb, top}
 use Rattle.treerule.specs.Split.{Rfc6962, splitIn, split, treeHash}
-use Rattle.treerule.proofs.Powers.{below-two-pow, power-below}
+use Rattle.treerule.proofs.Powers.{power-below}
 use Rattle.treerule.proofs.Levels.{top-one, top-more}
 
 map-take : {A : Type 0} (f : A → Node) (n : ℕ) (xs : List A) → map f (take n xs) ≡ take n (map f xs)
@@ -37,7 +38,7 @@ module _ {A : Type 0} {single : A → Node} {hash : List A → Node} (rule : Rfc
       let many : length nodes ≡ length all = length-map all single in
       let largest = power-below (length nodes) (omega arith) in
       let j = largest .exponent in
-      let power = below-two-pow j in
+      let power = lt-two-pow j in
       let front : length (take (2 ^ j) all) ≡ 2 ^ j = length-take-le (2 ^ j) all (omega arith) in
       let rest : length (drop (2 ^ j) all) ≡ length all - 2 ^ j = length-drop (2 ^ j) all in
       rule .more j all (omega arith) (omega arith)

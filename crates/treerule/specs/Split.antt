@@ -8,19 +8,20 @@ use lib.Dec.{ltb}
 use lib.ListN.{length, take, drop}
 use Rattle.treerule.specs.Root.{Node, sha256, leaf, parent}
 
--- `hash` keeps the rules of §2.1: of no entry, of one and of more. A power of two k is the largest one below n where k < n ≤ 2k
+-- `hash` keeps the rules of §2.1: of no entry, of one, whose node is `single` of it, and of more. A power of two k is the largest one below
+-- n where k < n ≤ 2k
 pub record Rfc6962 {A : Type 0} (single : A → Node) (hash : List A → Node) : Type 0 where
   pub none : hash [] ≡ sha256 []
   pub one : (entry : A) → hash (entry ∷ []) ≡ single entry
   pub more : (j : ℕ) (entries : List A) → 2 ^ j < length entries → length entries ≤ 2 * 2 ^ j →
       hash entries ≡ parent (hash (take (2 ^ j) entries)) (hash (drop (2 ^ j) entries))
 
--- of 1, 2, 4 and so on to 2^j the largest that is below n, from n = 2 on
+-- of 1, 2, 4 and so on to 2^j the largest that is below n, from 2 on
 unfoldable pub powerTo : ℕ → ℕ → ℕ
 powerTo zero n = 1
 powerTo (suc j) n = cond (ltb (2 ^ suc j) n) (2 ^ suc j) (powerTo j n)
 
--- the largest power of two below n
+-- the largest power of two below n, from 2 on
 unfoldable pub powerBelow : ℕ → ℕ
 powerBelow n = powerTo n n
 

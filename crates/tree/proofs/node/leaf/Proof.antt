@@ -29,7 +29,7 @@ returns c =
     let bytes = c .before .before .before .before .before .before .before .args .bytes .now in
     c .hash .ensures
     ∙ ap sha256
-    (leaf-message _ bytes _ chunkBytes refl (c .before .before .before .before .put-front .ensures) (c .before .before .least .ensures))
+    (leaf-message 0 bytes _ chunkBytes refl (c .before .before .before .before .put-front .ensures) (c .before .before .least .ensures))
 
 pub leaf-spec : {M : Type 1} → statement M
 leaf-spec =
