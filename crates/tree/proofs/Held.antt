@@ -47,7 +47,7 @@ held-whole zero buffer room k = length-sha256 []
 held-whole (suc i) buffer room zero = length-take-le nodeBytes buffer (omega arith)
 held-whole (suc i) buffer room (suc k) = held-whole i (drop nodeBytes buffer) (simp length-drop (omega arith)) k
 
-length-flat : (ns : List Node) → Whole ns → length (flatten ns) ≡ length ns * nodeBytes
+pub length-flat : (ns : List Node) → Whole ns → length (flatten ns) ≡ length ns * nodeBytes
 unfolding flatten
 length-flat [] whole = refl
 length-flat (n ∷ ns) whole =

@@ -1,9 +1,9 @@
--- Pieces of a list: how many (`length-pieces`), one more at the end (`pieces-snoc`), of a front (`pieces-front`), and that enough of them
--- leave nothing out (`pieces-flat`).
-use Prim.Native.Nat.{ℕ, zero, suc, _*_, _≤_}
+-- Pieces of a list: how many (`length-pieces`), one more at the end (`pieces-snoc`), of a front (`pieces-front`), that enough of them leave
+-- nothing out (`pieces-flat`), the first of them and the others (`pieces-take`, `pieces-drop`), and of two lists (`pieces-append`).
+use Prim.Native.Nat.{ℕ, zero, suc, _+_, _-_, _*_, _≤_}
 use mathlib.Core.List.{List, [], _∷_, _++_, flatten}
-use mathlib.Core.Path.{_≡_, refl, sym, ap, _∙_}
-use native.Mathlib.Nat.{zero-mul, suc-mul, add-comm}
+use mathlib.Core.Path.{_≡_, refl, sym, ap, ap₂, _∙_}
+use native.Mathlib.Nat.{zero-add, suc-add, zero-mul, suc-mul, add-comm, sub-zero}
 use native.Mathlib.Omega.{arith}
 use lib.ListN.{length, take, drop, length-drop, take-append-drop}
 use lib.Seq.{take-append-le, drop-append-le, drop-drop}
@@ -43,3 +43,30 @@ pieces-flat n zero (x ∷ xs) h = absurd (omega (arith, zero-mul n))
 pieces-flat n (suc k) xs h =
     let fewer : length (drop n xs) ≤ k * n = simp length-drop (omega (arith, suc-mul k n)) in
     ap (λ (l : List ℕ). take n xs ++ l) (pieces-flat n k (drop n xs) fewer) ∙ take-append-drop n xs
+
+-- the first j of them, and the others
+pub pieces-take : (n j k : ℕ) (xs : List ℕ) → j ≤ k → take j (pieces n k xs) ≡ pieces n j xs
+unfolding pieces
+pieces-take n zero k xs h = refl
+pieces-take n (suc j) zero xs h = absurd (omega arith)
+pieces-take n (suc j) (suc k) xs h = ap (λ (l : List (List ℕ)). take n xs ∷ l) (pieces-take n j k (drop n xs) (omega arith))
+
+pub pieces-drop : (n j k : ℕ) (xs : List ℕ) → j ≤ k → drop j (pieces n k xs) ≡ pieces n (k - j) (drop (j * n) xs)
+unfolding pieces
+pieces-drop n zero k xs h = rw (zero-mul, sub-zero k)
+pieces-drop n (suc j) zero xs h = absurd (omega arith)
+pieces-drop n (suc j) (suc k) xs h =
+    let fewer : k - j ≡ suc k - suc j = omega arith in
+    pieces-drop n j k (drop n xs) (omega arith) ∙ rw (fewer, ← drop-one-more n j xs)
+
+-- whole pieces at the front, and those of what follows
+pub pieces-append : (n j k : ℕ) (xs ys : List ℕ) → length xs ≡ j * n → pieces n (j + k) (xs ++ ys) ≡ pieces n j xs ++ pieces n k ys
+unfolding pieces
+pieces-append n zero k [] ys e = ap (λ (m : ℕ). pieces n m ys) (zero-add k)
+pieces-append n zero k (x ∷ xs) ys e = absurd (omega (arith, zero-mul n))
+pieces-append n (suc j) k xs ys e =
+    let whole = suc-mul j n in
+    let rest : length (drop n xs) ≡ j * n = length-drop n xs ∙ omega arith in
+    ap (λ (m : ℕ). pieces n m (xs ++ ys)) (suc-add j k)
+    ∙ ap₂ (λ (a b : List ℕ). a ∷ pieces n (j + k) b) (take-append-le n xs ys (omega arith)) (drop-append-le n xs ys (omega arith))
+    ∙ ap (λ (l : List (List ℕ)). take n xs ∷ l) (pieces-append n j k (drop n xs) ys rest)

@@ -4,7 +4,7 @@ use Prim.Native.Nat.{ℕ, _<_, _≤_}
 use mathlib.Core.List.{List, [], _∷_, map, flatten}
 use mathlib.Core.Path.{_≡_, refl, sym, ap, _∙_}
 use native.Mathlib.Omega.{arith}
-use lib.ListN.{length, take}
+use lib.ListN.{length}
 use lib.Seq.{take-all}
 use Rattle.fips.specs.Bits.{pieces}
 use Rattle.treerule.specs.Root.{chunkBytes, nodeBytes, chunkCount, Node, sha256, chunks, leaf, climb, top, root}
@@ -34,13 +34,23 @@ pub chunks-join : (bytes : List ℕ) → flatten (chunks bytes) ≡ bytes
 unfolding chunks
 chunks-join bytes = pieces-flat chunkBytes (chunkCount (length bytes)) bytes (omega arith)
 
-pub root-one-chunk : (bytes : List ℕ) → 0 < length bytes → length bytes ≤ chunkBytes → root bytes ≡ leaf bytes
-unfolding root chunks pieces
-root-one-chunk bytes some few =
+-- bytes that are no more than a chunk, and none
+pub chunks-one : (bytes : List ℕ) → 0 < length bytes → length bytes ≤ chunkBytes → chunks bytes ≡ bytes ∷ []
+unfolding chunks pieces
+chunks-one bytes some few =
     let one : chunkCount (length bytes) ≡ 1 = omega arith in
-    ap (λ (n : ℕ). top (map leaf (pieces chunkBytes n bytes))) one
-    ∙ top-one (leaf (take chunkBytes bytes))
-    ∙ ap leaf (take-all chunkBytes bytes few)
+    ap (λ (n : ℕ). pieces chunkBytes n bytes) one ∙ ap (λ (chunk : List ℕ). chunk ∷ []) (take-all chunkBytes bytes few)
+
+pub chunks-none : (bytes : List ℕ) → length bytes ≡ 0 → chunks bytes ≡ []
+unfolding chunks pieces
+chunks-none bytes none =
+    let zero : chunkCount (length bytes) ≡ 0 = omega arith in
+    ap (λ (n : ℕ). pieces chunkBytes n bytes) zero
+
+pub root-one-chunk : (bytes : List ℕ) → 0 < length bytes → length bytes ≤ chunkBytes → root bytes ≡ leaf bytes
+unfolding root
+root-one-chunk bytes some few =
+    ap (λ (entries : List (List ℕ)). top (map leaf entries)) (chunks-one bytes some few) ∙ top-one (leaf bytes)
 
 pub root-tree-hash : (bytes : List ℕ) → root bytes ≡ treeHash (chunks bytes)
 unfolding root treeHash

@@ -1,0 +1,8 @@
+-- Laws of a stream by value; each function's folder cites them.
+pub mod Limits
+pub mod Buffers
+pub mod Folding
+pub mod Pushing
+pub mod Soundness
+pub mod Rooting
+pub mod Adding
