@@ -17,32 +17,14 @@ use Rattle.slices.specs.Blocks.{rest}
 use Rattle.halfread.specs.Steps.{waiting, added}
 use Rattle.sha2.proofs.Absorbed.{absorbed-none, absorbed-append}
 use Rattle.halfread.proofs.Adding.{length-waiting}
-use Rattle.slices.proofs.Blocks.{rest-small, rest-append}
+use Rattle.slices.proofs.Blocks.{rest-small, rest-append, lack, lack-whole, lack-short}
+use Rattle.slices.proofs.Padded.{front-behind, front-padded}
 use Rattle.halfread.proofs.Fields.{same-state}
 use Rattle.halfread.proofs.Rules.{tail-lt, tail-within}
 use Rattle.fips.proofs.Sizes.{block-some, block-within}
 use Rattle.halfread.proofs.Soundness.{facts-of, zeros-behind}
-use Rattle.halfread.proofs.Tails.{front-behind, front-padded, length-pending}
+use Rattle.halfread.proofs.Tails.{length-pending}
 use Rattle.slices.proofs.Parts.{partTo, part-all}
-
--- ---- what a begun block of b bytes lacks where n are there
-
-abbrev pub lack : ℕ → ℕ → ℕ
-lack b n = (b - n) % b
-
-pub lack-cases : (b n : ℕ) → n < b → ((n ≡ 0) × (lack b n ≡ 0)) ⊎ ((0 < n) × (lack b n ≡ b - n))
-lack-cases b zero h = inl (refl, ap (λ (k : ℕ). k % b) (sub-zero b) ∙ mod-self b)
-lack-cases b (suc n) h = inr (omega arith, mod-eq-of-lt (omega arith))
-
--- with it there are no blocks, or one
-pub lack-whole : (b n : ℕ) → n < b → (k : ℕ) × (k * b ≡ n + lack b n) × (n + lack b n ≤ b)
-lack-whole b n h =
-    ⊎-elim (λ (c : (n ≡ 0) × (lack b n ≡ 0)). (0, zero-mul b ∙ omega arith, omega arith))
-    (λ (c : (0 < n) × (lack b n ≡ b - n)). (1, one-mul b ∙ omega arith, omega arith)) (lack-cases b n h)
-
-pub lack-short : (b n m : ℕ) → n < b → m < lack b n → n + m < b
-lack-short b n m h k =
-    ⊎-elim (λ (c : (n ≡ 0) × (lack b n ≡ 0)). absurd (omega arith)) (λ (c : (0 < n) × (lack b n ≡ b - n)). omega arith) (lack-cases b n h)
 
 -- ---- the code's steps
 
@@ -93,7 +75,7 @@ module _ (h : HalfRead) (long : length (h .tail) ≡ tailRoom) (ok : sound h ≡
       ap (λ (l : List ℕ). P ++ l) (sym (take-append-drop m piece)) ∙ sym (append-assoc P (take m piece) R) in
       let front : take (from + lack size from) tail ≡ A =
       ap₂ take (ap₂ _+_ isFrom isM) isTail
-      ∙ front-padded (waiting h piece) (n + m) (omega (arith, w .2, block-within e)) (rw (length-waiting h long piece) (omega arith))
+      ∙ front-padded tailRoom (waiting h piece) (n + m) (omega (arith, w .2, block-within e)) (rw (length-waiting h long piece) (omega arith))
       ∙ ap (λ (k : ℕ). take (k + m) (P ++ piece)) (sym lp)
       ∙ take-append-add P piece m in
       let after : partTo (lack size from) piece ≡ R = part-all (lack size from) piece ∙ ap (λ (k : ℕ). drop k piece) isM in

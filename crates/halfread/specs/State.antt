@@ -8,7 +8,7 @@ use lib.ListN.{length, take, drop, replicate}
 use Rattle.slices.specs.Below.{Below, Bytes}
 use Rattle.fips.specs.Words.{word, blockBytes}
 use Rattle.fips.specs.Editions.{known, width, start}
-use Rattle.slices.specs.AtFront.{atFront}
+use Rattle.slices.specs.Padded.{padded as paddedTo}
 use Rattle.sha2.specs.Limit.{tooLong}
 use Rattle.halfread.specs.declared.HalfRead.{HalfRead}
 use Rattle.slices.specs.Tests.{holds, allBelow, allZero, same}
@@ -51,7 +51,7 @@ blank = record { edition = 0; count = 0; words = replicate chainRoom 0; tail = r
 
 -- the bytes of a tail with zeros behind them
 abbrev pub padded : List ℕ → List ℕ
-padded bytes = atFront bytes (replicate tailRoom 0)
+padded bytes = paddedTo tailRoom bytes
 
 -- what every value of the struct has, whatever it holds: eight words of 64 bits and the bytes of a tail
 pub record Shaped (h : HalfRead) : Type 0 where

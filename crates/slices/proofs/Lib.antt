@@ -2,6 +2,7 @@
 pub mod Below
 pub mod Tests
 pub mod AtFront
+pub mod Padded
 pub mod Fill
 pub mod Parts
 pub mod LiesAt

@@ -1,6 +1,6 @@
 -- Tests on lists, and the facts that they tell: laws of `holds`, `every` and `same`, and of the loops that ask them.
 use Prim.Native.Nat.{ℕ, zero, suc, _<_, _≤_}
-use mathlib.Core.Bool.{Bool, true, false, cond, false≢true}
+use mathlib.Core.Bool.{Bool, true, false, cond, _&&_, false≢true}
 use mathlib.Core.List.{List, [], _∷_}
 use mathlib.Core.Path.{_≡_, refl, sym, ap, ap₂, _∙_}
 use native.Mathlib.Nat.{not-suc-le-zero, le-of-suc-le-suc}
@@ -74,6 +74,15 @@ module _ {A : Type 0} (p : A → Bool) (d : A) where
   at-every [] h = refl
   at-every (x ∷ xs) h = rw (h 0 (omega arith)) (at-every xs (λ i k. h (suc i) (omega arith)))
 
+pub and-true : (b : Bool) → (b && true) ≡ b
+and-true true = refl
+and-true false = refl
+
+and-cond : (a b c : Bool) → (a && cond b c false) ≡ ((a && b) && c)
+and-cond true true c = refl
+and-cond true false c = refl
+and-cond false b c = refl
+
 -- the loop: what is left from i decides
 module _ (p : ℕ → Bool) (xs : List ℕ) (i : ℕ) where
   pub every-turn : i < length xs → p (getD xs i 0) ≡ true → every p (drop i xs) ≡ every p (drop (suc i) xs)
@@ -83,6 +92,11 @@ module _ (p : ℕ → Bool) (xs : List ℕ) (i : ℕ) where
   pub every-stop : i < length xs → p (getD xs i 0) ≡ false → every p (drop i xs) ≡ false
   unfolding every
   every-stop h e = rw (drop-cons xs i 0 h, e)
+
+  -- without a way out: what was found so far, and what is left
+  pub every-on : (b : Bool) → i < length xs → (b && every p (drop i xs)) ≡ ((b && p (getD xs i 0)) && every p (drop (suc i) xs))
+  unfolding every
+  every-on b h = rw (drop-cons xs i 0 h) (and-cond b (p (getD xs i 0)) (every p (drop (suc i) xs)))
 
   pub every-end : length xs ≤ i → every p (drop i xs) ≡ true
   unfolding every

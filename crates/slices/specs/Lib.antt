@@ -2,5 +2,6 @@
 pub mod Below
 pub mod Tests
 pub mod AtFront
+pub mod Padded
 pub mod Parts
 pub mod Blocks

@@ -7,7 +7,7 @@ use native.Mathlib.Omega.{arith}
 use lib.Count.{ones}
 use lib.ListN.{length, take, drop, length-append, length-map}
 use Rattle.slices.specs.Blocks.{rest}
-use Rattle.slices.specs.Parts.{part}
+use Rattle.slices.specs.Padded.{padded}
 use Rattle.slices.proofs.Blocks.{length-rest, rest-append}
 use Rattle.slices.proofs.Parts.{partTo, part-all}
 use Rattle.fips.specs.Bits.{pieces}
@@ -17,7 +17,7 @@ use Rattle.tree.proofs.Held.{flat-held}
 use Rattle.streamrule.specs.Held.{grown}
 use Rattle.streamrule.proofs.Subtrees.{grown-append}
 use Rattle.stream.specs.declared.Stream.{Stream}
-use Rattle.stream.specs.State.{mostChunks, rootRoom, padded, stateOf}
+use Rattle.stream.specs.State.{mostChunks, rootRoom, stateOf}
 use Rattle.stream.specs.Steps.{finished}
 use Rattle.stream.specs.code.Buffer.{rootsIn}
 use Rattle.stream.proofs.Limits.{few-roots}

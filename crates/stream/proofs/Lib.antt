@@ -6,3 +6,4 @@ pub mod Pushing
 pub mod Soundness
 pub mod Rooting
 pub mod Adding
+pub mod Filling

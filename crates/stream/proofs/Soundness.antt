@@ -18,10 +18,9 @@ use Rattle.treerule.proofs.Levels.{Whole}
 use Rattle.treerule.proofs.Pieces.{length-pieces}
 use Rattle.tree.proofs.Held.{held-whole, length-flat}
 use Rattle.stream.specs.declared.Stream.{Stream}
-use Rattle.stream.specs.State.{mostChunks, rootRoom, padded, stateOf, countRules, held, further, rules, sound, Shaped}
-use Rattle.stream.specs.Steps.{streamLimit, taken}
+use Rattle.stream.specs.State.{mostChunks, countRules, rules, sound}
+use Rattle.stream.specs.Steps.{streamLimit}
 use Rattle.stream.proofs.Limits.{few-roots}
-use Rattle.stream.proofs.Buffers.{held-form, zeros-padded, held-padded, padded-front, padded-zeros}
 
 -- ---- the counts
 

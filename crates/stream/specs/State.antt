@@ -5,8 +5,8 @@ use mathlib.Core.List.{List, [], _∷_, _++_, flatten}
 use mathlib.Core.Path.{_≡_}
 use lib.Count.{ones}
 use lib.Dec.{leb, ltb, eqb}
-use lib.ListN.{length, take, drop, replicate}
-use Rattle.slices.specs.AtFront.{atFront}
+use lib.ListN.{length, take, drop}
+use Rattle.slices.specs.Padded.{padded}
 use Rattle.slices.specs.Tests.{holds, allZero}
 use Rattle.fips.specs.Bits.{pieces}
 use Rattle.treerule.specs.Root.{chunkBytes, nodeBytes, Node}
@@ -18,10 +18,6 @@ mostChunks = 4294967296
 
 abbrev pub rootRoom : ℕ
 rootRoom = 32 * nodeBytes
-
--- bytes with zeros behind them, so many in all
-unfoldable pub padded : ℕ → List ℕ → List ℕ
-padded room bytes = atFront bytes (replicate room 0)
 
 -- the stream of so many finished chunks, with these roots and these bytes after the chunks
 unfoldable pub stateOf : ℕ → List Node → List ℕ → Stream

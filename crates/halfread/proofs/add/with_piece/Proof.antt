@@ -13,7 +13,8 @@ use Rattle.halfread.specs.declared.HalfRead.{HalfRead}
 use Rattle.halfread.specs.State.{padded, sound, tailRoom}
 use Rattle.halfread.specs.Steps.{waiting}
 use Rattle.sha2.proofs.Limits.{length-fits}
-use Rattle.halfread.proofs.Filling.{lack, lack-whole, filled, fills-short, fills-long}
+use Rattle.slices.proofs.Blocks.{lack, lack-whole}
+use Rattle.halfread.proofs.Filling.{filled, fills-short, fills-long}
 use Rattle.halfread.proofs.Rules.{tail-lt, tail-within}
 use Rattle.fips.proofs.Sizes.{block-some, block-within}
 use Rattle.halfread.proofs.Tails.{length-padded}

@@ -1,72 +1,77 @@
+-- `stream::add::with_piece` meets its contract: the begun chunk is filled or not, and the two laws of Filling say what comes out.
+-- Assumes nothing.
+use Prim.Native.Nat.{_+_, _-_, _<_, _≤_}
+use mathlib.Core.Bool.{true}
+use mathlib.Core.List.{List, _++_}
+use mathlib.Core.Path.{_≡_, sym}
+use native.Mathlib.Omega.{arith}
+use lib.ListN.{length, take, drop}
+use lib.Seq.{length-take-le}
 use borrow.Author.Needs.{needs}
+use Rattle.slices.specs.Padded.{padded}
+use Rattle.treerule.specs.Root.{chunkBytes}
+use Rattle.stream.specs.declared.Stream.{Stream}
+use Rattle.stream.specs.State.{sound, Shaped}
+use Rattle.stream.specs.Steps.{waiting}
+use Rattle.stream.proofs.Soundness.{Counts, sound-has}
+use Rattle.stream.proofs.Filling.{filled, fills-short, begun-within, begun-chunked, runs-within, fills-long}
 use Rattle.stream.proofs.add.with_piece.Statement.{statement}
 use Rattle.stream.proofs.add.with_piece.Tie as tie
-use Rattle.stream.proofs.add.with_piece.Reads as reads
-use Rattle.stream.proofs.add.with_piece.Lts as lts
-use Rattle.slices.proofs.front.put_front.Reads as put-front-reads
-use Rattle.stream.proofs.add.taken_up.Reads as taken-up-reads
 
-sub-lead : tie.Need-sub-lead
-sub-lead c = ?
+abbrev start : tie.After-bytes → tie.Start
+start c = c .before .before .before
 
-sub-put-front : tie.Need-sub-put-front
-sub-put-front c = ?
+abbrev stream : tie.After-bytes → Stream
+stream c = start c .args .stream
 
-part-bytes-start : tie.Need-part-bytes-start
-part-bytes-start c = ?
+shape : (c : tie.After-bytes) → Shaped (stream c)
+shape c = record { roots = search needs; bytes = search needs }
 
-part-bytes-end : tie.Need-part-bytes-end
-part-bytes-end c = ?
+short : (c : tie.After-bytes) → stream c .further < chunkBytes
+short c = sound-has (stream c) (start c .pre .0) .counts .short
 
-put-front-requires : tie.Need-put-front-requires
-put-front-requires c κs = search needs
-
-add-t17 : tie.Need-add-t17
-add-t17 c = search needs
+-- the bytes with the piece behind them
+is-filled : (c : tie.After-put-front) →
+    take (stream (c .before .before) .further) (stream (c .before .before) .bytes)
+    ++ (c .put-front .last .0
+    ++ drop (chunkBytes - stream (c .before .before) .further) (drop (stream (c .before .before) .further) (stream (c .before .before) .bytes)))
+    ≡ padded chunkBytes (waiting (stream (c .before .before)) (start (c .before .before) .args .piece .now))
+is-filled c =
+    let b = c .before .before in
+    filled (stream b) (shape b) (start b .pre .0) (start b .args .piece .now) (c .put-front .last .0) (c .put-front .ensures)
 
 returns : tie.Need-returns
-returns c = ?
+returns c =
+    let p = c .before .before in
+    let b = p .before .before in
+    fills-short (stream b) (shape b) (start b .pre .0) (start b .args .piece .now) (is-filled p) (c .if1 .taken)
 
-add-end : tie.Need-add-end
-add-end c = search needs
-
-array-share-prefix-bytes : tie.Need-array-share-prefix-bytes
-array-share-prefix-bytes c = ?
-
-slice-aggregate-taken-up : tie.Need-slice-aggregate-taken-up
-slice-aggregate-taken-up c = ?
-
-sub-taken-up : tie.Need-sub-taken-up
-sub-taken-up c = search needs
-
-part-taken-up-start : tie.Need-part-taken-up-start
-part-taken-up-start c = search needs
-
-part-taken-up-end : tie.Need-part-taken-up-end
-part-taken-up-end c = search needs
+within : tie.Need-array-share-prefix-bytes
+within c =
+    let p = c .before .before in
+    let b = p .before .before in
+    begun-within (stream b) (shape b) (start b .pre .0) (start b .args .piece .now) (is-filled p) (c .if1 .left)
 
 taken-up-requires : tie.Need-taken-up-requires
-taken-up-requires c κs = ?
+taken-up-requires c κs =
+    let e = c .before .before in
+    let p = e .before .before in
+    let b = p .before .before in (
+      begun-chunked (stream b) (shape b) (start b .pre .0) (start b .args .piece .now) (is-filled p) (e .if1 .left),
+      runs-within (stream b) (shape b) (start b .pre .0) (start b .args .piece .now) (is-filled p) (e .if1 .left) (start b .pre .1),
+    )
 
 returns-2 : tie.Need-returns-2
-returns-2 c = ?
+returns-2 c =
+    let e = c .before .before .before in
+    let p = e .before .before in
+    let b = p .before .before in
+    fills-long (stream b) (shape b) (start b .pre .0) (start b .args .piece .now) (is-filled p) (e .if1 .left) (c .taken-up .ensures)
 
 pub with-piece-spec : {M : Type 1} → statement M
 with-piece-spec =
     tie.close
     (tie.spec
-    sub-lead
-    sub-put-front
-    part-bytes-start
-    part-bytes-end
-    put-front-requires
-    add-t17
-    returns
-    add-end
-    array-share-prefix-bytes
-    slice-aggregate-taken-up
-    sub-taken-up
-    part-taken-up-start
-    part-taken-up-end
-    taken-up-requires
-    returns-2)
+    (λ c. omega (arith, short c)) (λ c. omega (arith, short c)) (λ c. omega (arith, short c)) (λ c. omega (arith, shape c .bytes))
+    (λ c κs. search needs) (λ c. search needs) returns (λ c. search needs) within (λ c. sym (length-take-le _ _ (within (c .before))))
+    (λ c. search needs) (λ c. search needs) (λ c. search needs) taken-up-requires returns-2)

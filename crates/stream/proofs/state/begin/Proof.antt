@@ -2,12 +2,12 @@
 use mathlib.Core.List.{flatten}
 use borrow.Author.Needs.{needs}
 use Rattle.slices.specs.AtFront.{atFront}
-use Rattle.stream.specs.State.{stateOf, padded}
+use Rattle.stream.specs.State.{stateOf}
 use Rattle.stream.proofs.state.begin.Statement.{statement}
 use Rattle.stream.proofs.state.begin.Tie as tie
 
 returns : tie.Need-returns
-unfolding stateOf padded atFront flatten
+unfolding stateOf atFront flatten
 returns c = search needs
 
 pub begin-spec : {M : Type 1} → statement M
