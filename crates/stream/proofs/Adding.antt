@@ -82,3 +82,18 @@ taken-law n roots xs ys one two {count} {at} {kept} {behind} whole most room isO
     ∙ ap (padded chunkBytes)
     (ap (λ (m : ℕ). take (m * nodeBytes) two) isCount ∙ sym (flat-held (ones last) two (omega arith)) ∙ ap flatten held))
     (isBehind ∙ ap (padded chunkBytes) tail)
+
+-- ---- the stream that roots and bytes behind them make
+
+abbrev pub built : ℕ → List Node → List ℕ → Stream
+built n roots bytes = stateOf (n + length bytes / chunkBytes) (grown n roots (finished bytes)) (rest chunkBytes bytes)
+
+-- whole chunks may be taken first
+pub built-append : (n : ℕ) (roots : List Node) (xs ys : List ℕ) → Chunked xs →
+    built n roots (xs ++ ys) ≡ built (n + length xs / chunkBytes) (grown n roots (finished xs)) ys
+built-append n roots xs ys whole =
+    let count : n + length (xs ++ ys) / chunkBytes ≡ n + length xs / chunkBytes + length ys / chunkBytes =
+    omega (arith, count-append xs ys whole) in
+    ap (λ (m : ℕ). stateOf m (grown n roots (finished (xs ++ ys))) (rest chunkBytes (xs ++ ys))) count
+    ∙ ap₂ (λ (r : List Node) (l : List ℕ). stateOf (n + length xs / chunkBytes + length ys / chunkBytes) r l)
+    (sym (grown-both n roots xs ys whole)) (rest-append chunkBytes (length xs / chunkBytes) xs ys (omega arith) whole)

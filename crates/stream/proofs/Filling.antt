@@ -23,7 +23,7 @@ use Rattle.stream.specs.State.{mostChunks, rootRoom, stateOf, held, furt
 use Rattle.stream.specs.Steps.{finished, streamLimit, taken, waiting, added}
 use Rattle.stream.specs.code.Buffer.{rootsIn}
 use Rattle.stream.proofs.Buffers.{held-form}
-use Rattle.stream.proofs.Soundness.{Sound, sound-has}
+use Rattle.stream.proofs.Soundness.{sound-has, length-further}
 use Rattle.stream.proofs.Adding.{same-stream, Chunked}
 
 -- fewer bytes than a chunk has finish none
@@ -34,11 +34,8 @@ finished-none bytes short =
     ap (λ (n : ℕ). map leaf (pieces chunkBytes n bytes)) none
 
 module _ (s : Stream) (shape : Shaped s) (ok : sound s ≡ true) (piece : List ℕ) where
-  pub length-further : length (further s) ≡ s .further
-  length-further = length-take-le (s .further) (s .bytes) (omega (arith, shape .bytes, sound-has s ok .counts .short))
-
-  pub length-waiting : length (waiting s piece) ≡ s .further + length piece
-  length-waiting = length-append (further s) piece ∙ ap (λ (n : ℕ). n + length piece) length-further
+  length-waiting : length (waiting s piece) ≡ s .further + length piece
+  length-waiting = length-append (further s) piece ∙ ap (λ (n : ℕ). n + length piece) (length-further s shape ok)
 
   -- the piece behind the bytes, as much as there is room for
   pub filled : (mid : List ℕ) → mid ≡ atFront piece (take (chunkBytes - s .further) (drop (s .further) (s .bytes))) →
@@ -85,7 +82,7 @@ module _ (s : Stream) (shape : Shaped s) (ok : sound s ≡ true) (piece : List �
         let front : begun ≡ further s ++ take lead piece =
         ap (take (s .further + lead)) isBytes
         ∙ front-padded chunkBytes (waiting s piece) (s .further + lead) (whole .2) (rw length-waiting (omega arith))
-        ∙ ap (λ (n : ℕ). take (n + lead) (waiting s piece)) (sym length-further)
+        ∙ ap (λ (n : ℕ). take (n + lead) (waiting s piece)) (sym (length-further s shape ok))
         ∙ take-append-add (further s) piece lead in
         ap₂ (λ (a b : List ℕ). a ++ b) front (part-all lead piece)
         ∙ append-assoc (further s) (take lead piece) (drop lead piece)

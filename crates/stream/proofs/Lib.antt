@@ -7,3 +7,5 @@ pub mod Soundness
 pub mod Rooting
 pub mod Adding
 pub mod Filling
+pub mod Forms
+pub mod Appending

@@ -4,7 +4,7 @@ use mathlib.Core.Bool.{Bool, true, false, false≢true, cond, _||_}
 use mathlib.Core.List.{List, [], _∷_, _++_, flatten}
 use mathlib.Core.Path.{_≡_, refl, sym, ap, ap₂, _∙_}
 use native.Mathlib.Omega.{arith}
-use borrow.Author.Tests.{leb-true, ltb-true, ltb-false, le-leb, lt-ltb, le-ltb, eqb-true}
+use borrow.Author.Tests.{leb-true, ltb-true, ltb-false, le-leb, lt-ltb, le-ltb, eqb-true, eq-eqb}
 use lib.Count.{ones}
 use lib.Dec.{leb, ltb, eqb}
 use lib.ListN.{length, getD, take, drop}
@@ -18,7 +18,7 @@ use Rattle.treerule.proofs.Levels.{Whole}
 use Rattle.treerule.proofs.Pieces.{length-pieces}
 use Rattle.tree.proofs.Held.{held-whole, length-flat}
 use Rattle.stream.specs.declared.Stream.{Stream}
-use Rattle.stream.specs.State.{mostChunks, countRules, rules, sound}
+use Rattle.stream.specs.State.{mostChunks, countRules, further, rules, sound, Shaped}
 use Rattle.stream.specs.Steps.{streamLimit}
 use Rattle.stream.proofs.Limits.{few-roots}
 
@@ -54,6 +54,15 @@ pub counts-last : (n r : ℕ) → n ≤ mostChunks → mostChunks ≤ n → r < 
 unfolding holds
 counts-last n r most last short =
     rw (le-leb n mostChunks most, lt-ltb r chunkBytes short, le-ltb n mostChunks last) (cond-true (eqb r 0))
+
+pub counts-within : (n r : ℕ) → r < chunkBytes → n * chunkBytes + r ≤ streamLimit → holds (countRules n r) ≡ true
+counts-within n r short limit = go (ltb n mostChunks) refl
+  where
+    go : (b : Bool) → ltb n mostChunks ≡ b → holds (countRules n r) ≡ true
+    go true e = counts-below n r (ltb-true n mostChunks e) short
+    go false e =
+        let last = ltb-false n mostChunks e in
+        counts-last n r (omega arith) last short ∙ eq-eqb r 0 (omega arith)
 
 -- ---- conditions in two runs
 
@@ -94,6 +103,9 @@ module _ (s : Stream) where
       first-three at (suc zero) = at 1
       first-three at (suc (suc zero)) = at 2
       first-three at (suc (suc (suc i))) = refl
+
+  pub length-further : Shaped s → sound s ≡ true → length (further s) ≡ s .further
+  length-further shape ok = length-take-le (s .further) (s .bytes) (omega (arith, shape .bytes, sound-has ok .counts .short))
 
   -- ---- as it is asked: the counts, then the zeros
 

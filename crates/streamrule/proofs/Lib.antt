@@ -2,3 +2,4 @@
 pub mod Ones
 pub mod Folds
 pub mod Subtrees
+pub mod Wholes
