@@ -29,6 +29,12 @@ use Rattle.capi.proofs.dw_ask as dw-ask
 use Rattle.capi.proofs.dw_ask.Reads as dw-ask-reads
 use Rattle.capi.proofs.dw_tree as dw-tree
 use Rattle.capi.proofs.dw_tree.Reads as dw-tree-reads
+use Rattle.capi.proofs.dw_stream_begin as dw-stream-begin
+use Rattle.capi.proofs.dw_stream_begin.Reads as dw-stream-begin-reads
+use Rattle.capi.proofs.dw_stream_add as dw-stream-add
+use Rattle.capi.proofs.dw_stream_add.Reads as dw-stream-add-reads
+use Rattle.capi.proofs.dw_stream_root as dw-stream-root
+use Rattle.capi.proofs.dw_stream_root.Reads as dw-stream-root-reads
 use Rattle.capi.proofs.dw_judge as dw-judge
 use Rattle.capi.proofs.dw_judge.Reads as dw-judge-reads
 use Rattle.capi.proofs.dw_lookup as dw-lookup
@@ -68,6 +74,15 @@ dw-ask-settled κs a r s x y j k = ap (λ (p : ℕ × Told). (p .0, p .1 .editio
 
 pub dw-tree-settled : Settles {A = ℕ × List ℕ} dw-tree.ended dw-tree-reads.Learnt (λ κs r x. (r, now (x .1 .0)))
 dw-tree-settled κs a r s x y = number-both
+
+pub dw-stream-begin-settled : Settles {A = ℕ × List ℕ} dw-stream-begin.ended dw-stream-begin-reads.Learnt (λ κs r x. (r, now (x .0)))
+dw-stream-begin-settled κs a r s x y = number-both
+
+pub dw-stream-add-settled : Settles {A = ℕ × List ℕ} dw-stream-add.ended dw-stream-add-reads.Learnt (λ κs r x. (r, now (x .0)))
+dw-stream-add-settled κs a r s x y j k = number-both (j .0) (k .0)
+
+pub dw-stream-root-settled : Settles {A = ℕ × List ℕ} dw-stream-root.ended dw-stream-root-reads.Learnt (λ κs r x. (r, now (x .1 .0)))
+dw-stream-root-settled κs a r s x y = number-both
 
 pub dw-judge-settled : Settles dw-judge.ended dw-judge-reads.Learnt (λ κs r x. r)
 dw-judge-settled κs a r s x y = value-settled

@@ -6,6 +6,8 @@ ghost use Rattle.answers.specs.Judged.{first};
 ghost use Rattle.calls.specs.Calls.{Call, told, Lends, Outcome, Asks};
 ghost use Rattle.lists.specs.Calls.{spot, Finds, judgeTests};
 ghost use Rattle.sha2.specs.Hash.{Hashes};
+ghost use Rattle.slices.specs.Below.{Bytes};
+ghost use Rattle.streamwords.specs.Calls.{Begins, Adds, Roots};
 ghost use Rattle.tree.specs.Tree.{Trees};
 ghost use Rattle.writer.specs.Writing;
 use lists::Found;
@@ -105,6 +107,28 @@ pub extern "C" fn dw_tree(map: &[u8], out: &mut [u8]) -> u64
     ensures { λ r. ⌜ Trees (now (map .entry)) (now (out .entry)) r (now (out .exit)) ⌝ }
 {
     answers::number(tree::whole::tree(map, out))
+}
+
+#[no_mangle]
+pub extern "C" fn dw_stream_begin(stream: &mut [u64]) -> u64
+    ensures { λ r. ⌜ Begins (now (stream .entry)) r (now (stream .exit)) ⌝ }
+{
+    answers::number(streamwords::begin(stream))
+}
+
+#[no_mangle]
+pub extern "C" fn dw_stream_add(stream: &mut [u64], piece: &[u8]) -> u64
+    ensures { λ r. ⌜ Adds (now (stream .entry)) (now (piece .entry)) r (now (stream .exit)) ⌝ }
+    ensures { λ _. ⌜ Bytes (now (piece .entry)) ⌝ }
+{
+    answers::number(streamwords::add(stream, piece))
+}
+
+#[no_mangle]
+pub extern "C" fn dw_stream_root(stream: &[u64], out: &mut [u8]) -> u64
+    ensures { λ r. ⌜ Roots (now (stream .entry)) (now (out .entry)) r (now (out .exit)) ⌝ }
+{
+    answers::number(streamwords::root(stream, out))
 }
 
 #[no_mangle]

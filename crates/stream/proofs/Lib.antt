@@ -9,3 +9,4 @@ pub mod Adding
 pub mod Filling
 pub mod Forms
 pub mod Appending
+pub mod Settled

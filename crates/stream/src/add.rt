@@ -11,7 +11,7 @@ ghost use Rattle.slices.specs.Blocks.{rest as restOf};
 ghost use Rattle.slices.specs.Padded.{padded as paddedTo};
 ghost use Rattle.treerule.specs.Root.{chunkBytes};
 ghost use Rattle.streamrule.specs.Held.{grown};
-ghost use Rattle.stream.specs.State.{mostChunks, stateOf, sound};
+ghost use Rattle.stream.specs.State.{mostChunks, stateOf, sound, Shaped};
 ghost use Rattle.stream.specs.Steps.{finished, streamLimit, taken, addTests, added};
 ghost use Rattle.stream.specs.code.Buffer.{rootsIn};
 use crate::CHUNK;
@@ -103,6 +103,7 @@ fn with_piece(stream: Stream, piece: &[u8]) -> Stream
 pub fn add(stream: Stream, piece: &[u8]) -> Added
     ensures { λ r.
         ⌜ Judged (addTests stream (now (piece .entry))) stream (added stream (now (piece .entry))) (numberOf (r .answer)) (r .stream) ⌝ }
+    ensures { λ _. ⌜ Shaped stream ⌝ }
 {
     if !is_sound(stream) {
         return Added {

@@ -4,7 +4,7 @@ ghost use mathlib.Core.Path.{_≡_};
 ghost use Rattle.answers.specs.Judged.{Judged};
 ghost use Rattle.answers.specs.Numbers.{numberOf};
 ghost use Rattle.slices.specs.AtFront.{atFront};
-ghost use Rattle.stream.specs.State.{sound};
+ghost use Rattle.stream.specs.State.{sound, Shaped};
 ghost use Rattle.stream.specs.Steps.{rootTests, streamRoot};
 use crate::NODE;
 use crate::Stream;
@@ -43,6 +43,7 @@ pub fn root(stream: Stream, out: &mut [u8]) -> Answer
     ensures { λ r.
         ⌜ Judged (rootTests stream (now (out .entry))) (now (out .entry)) (atFront (streamRoot stream) (now (out .entry))) (numberOf r)
         (now (out .exit)) ⌝ }
+    ensures { λ _. ⌜ Shaped stream ⌝ }
 {
     if !is_sound(stream) {
         return Answer::NotSound;

@@ -1,0 +1,3 @@
+-- A stream in lent words: read from the top.
+pub mod Words
+pub mod Calls
