@@ -76,9 +76,8 @@ fn end_of(at: usize, n: usize, len: usize) -> usize
     if n < len - at { at + n } else { len }
 }
 
-// Words of n bytes each from the front of s, as many as d has. Where s runs out, a word is made of the bytes that are left; of more than
-// eight bytes a word keeps the last eight.
-pub fn get_words(d: &mut [u64], s: &[u8], n: usize)
+// Words of n bytes each from the front of s, as many as d has; where s runs out, of the bytes that are left.
+fn cut_words(d: &mut [u64], s: &[u8], n: usize)
     ensures { λ r. ⌜ now (d .exit) ≡ map word64 (toWords (length (now (d .entry))) n (now (s .entry))) ⌝ }
 {
     let mut at = 0;
@@ -89,4 +88,22 @@ pub fn get_words(d: &mut [u64], s: &[u8], n: usize)
         at = end;
         i += 1;
     }
+}
+
+// Words of n bytes each from the front of s, as many as d has. Where s runs out, a word is made of the bytes that are left; of more than
+// eight bytes a word keeps the last eight. Words that s has whole have a loop of their own, in which no end is looked for: with n known it
+// is compiled to whole loads.
+pub fn get_words(d: &mut [u64], s: &[u8], n: usize)
+    ensures { λ r. ⌜ now (d .exit) ≡ map word64 (toWords (length (now (d .entry))) n (now (s .entry))) ⌝ }
+{
+    let m = room(d.len(), s.len(), n);
+    let mut at = 0;
+    let mut i = 0;
+    while i < m {
+        let end = at + n;
+        d[i] = get(&s[at..end]);
+        at = end;
+        i += 1;
+    }
+    cut_words(&mut d[i..], &s[at..], n);
 }
