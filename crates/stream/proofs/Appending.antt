@@ -17,7 +17,7 @@ use Rattle.treerule.specs.Root.{chunkBytes, nodeBytes, chunkCount, Node, leaf, 
 use Rattle.treerule.proofs.Levels.{Whole, leaves-whole}
 use Rattle.treerule.proofs.Pieces.{pieces-front, pieces-append}
 use Rattle.treerule.proofs.Root.{length-chunks}
-use Rattle.streamrule.specs.Held.{subtrees, folded, grown}
+use Rattle.streamrule.specs.Held.{subtreesIn, subtrees, folded, grown}
 use Rattle.streamrule.proofs.Subtrees.{held-ones, folded-top, grown-append, length-grown}
 use Rattle.streamrule.proofs.Wholes.{length-folded, whole-none, whole-append, whole-grown, whole-subtrees, subtrees-grown}
 use Rattle.stream.specs.declared.Stream.{Stream}
@@ -182,6 +182,25 @@ stream-added bytes =
     ∙ ap₂ (λ (r : List Node) (l : List ℕ). built 0 r (l ++ bytes)) (form-held 0 [] [] none-fits) (form-further 0 [] [] none-fits)
     ∙ ap₂ (λ (n : ℕ) (r : List Node). stateOf n r (rest chunkBytes bytes))
     (zero-add (length bytes / chunkBytes)) (sym (subtrees-grown (finished bytes))))
+
+pub stream-none : streamOf [] ≡ begun
+unfolding streamOf finished pieces subtrees subtreesIn
+stream-none = refl
+
+module _ (bytes : List ℕ) (limit : length bytes ≤ streamLimit) where
+  from-begun : taken begun + length bytes ≤ streamLimit
+  from-begun = omega (arith, begun-taken)
+
+  pub stream-taken : taken (streamOf bytes) ≡ length bytes
+  stream-taken =
+      ap taken (stream-added bytes) ∙ added-taken begun begun-shaped begun-sound bytes from-begun ∙ omega (arith, begun-taken)
+
+  -- a piece more to what bytes lead to is what both lead to
+  pub stream-more : (piece : List ℕ) → added (streamOf bytes) piece ≡ streamOf (bytes ++ piece)
+  stream-more piece =
+      ap (λ (s : Stream). added s piece) (stream-added bytes)
+      ∙ added-append begun begun-shaped begun-sound bytes from-begun piece
+      ∙ sym (stream-added (bytes ++ piece))
 
 -- ---- the root
 

@@ -1,9 +1,15 @@
--- The hashes of a chunk tree are as long as a node: `nodeBytes` each.
+-- The hashes of a chunk tree are as long as a node, `nodeBytes` each, and bytes: `bytes-sha256`.
 use Prim.Native.Nat.{ℕ}
 use mathlib.Core.List.{List, _∷_, _++_}
 use mathlib.Core.Path.{_≡_, refl, _∙_}
 use lib.ListN.{length}
-use Rattle.fips.specs.Editions.{edition, editions, digestBytes}
+use Rattle.slices.specs.Below.{Bytes}
+use Rattle.slices.proofs.Below.{below-take}
+use Rattle.bigendian.specs.Words.{fromWords}
+use Rattle.bigendian.proofs.Words.{fromWords-bytes}
+use Rattle.fips.specs.Message.{message}
+use Rattle.fips.specs.Constants.{hashFrom}
+use Rattle.fips.specs.Editions.{edition, editions, width, digestBytes, start, digest}
 use Rattle.fips.proofs.Digest.{length-digest}
 use Rattle.treerule.specs.Root.{nodeEdition, nodeBytes, sha256, leaf, parent}
 
@@ -14,6 +20,13 @@ node-size = refl
 pub length-sha256 : (bytes : List ℕ) → length (sha256 bytes) ≡ nodeBytes
 unfolding sha256
 length-sha256 bytes = length-digest nodeEdition _ ∙ node-size
+
+pub bytes-sha256 : (bytes : List ℕ) → Bytes (sha256 bytes)
+unfolding sha256 digest
+bytes-sha256 bytes =
+    let w = width nodeEdition in
+    let words = hashFrom w (start nodeEdition) (message bytes 0 0) in
+    below-take (digestBytes nodeEdition) (fromWords (w .bytes) words) (fromWords-bytes (w .bytes) words)
 
 pub length-leaf : (chunk : List ℕ) → length (leaf chunk) ≡ nodeBytes
 unfolding leaf

@@ -1,0 +1,3 @@
+-- The theorems of request 04, over the calls' own contracts.
+pub mod Passing
+pub mod Streams

@@ -1,0 +1,3 @@
+-- Streams that calls have made, by value and in lent words.
+pub mod ByValue
+pub mod InC
