@@ -1,3 +1,4 @@
 -- The theorems of request 04, over the calls' own contracts.
 pub mod Passing
 pub mod Streams
+pub mod CStreams
