@@ -16,7 +16,7 @@ use Rattle.treerule.specs.Root.{chunkBytes, nodeBytes, Node, leaf}
 use Rattle.treerule.proofs.Pieces.{length-pieces, pieces-snoc, pieces-take, pieces-drop}
 use Rattle.tree.specs.code.Held.{held, putNode}
 use Rattle.tree.proofs.Held.{held-put}
-use Rattle.streamrule.specs.Held.{folded, onesAtEnd, joined, grown}
+use Rattle.streamrule.specs.Held.{folded, onesAtEnd, joined, pushed, grown}
 use Rattle.streamrule.proofs.Ones.{ends-le, ones-next}
 use Rattle.streamrule.proofs.Subtrees.{grown-append}
 use Rattle.stream.specs.State.{mostChunks, rootRoom}
@@ -63,7 +63,8 @@ pub push-law : (buffer : List ℕ) (n to k : ℕ) (leaf : Node) {node y : List �
     to ≡ ones n → k ≡ onesAtEnd n → length node ≡ nodeBytes → node ≡ above buffer (to - k) to leaf →
     y ≡ atFront node (partTo ((to - k) * nodeBytes) buffer) →
     rootsIn (suc n) (putPart ((to - k) * nodeBytes) (length buffer - (to - k) * nodeBytes) y buffer)
-    ≡ joined (onesAtEnd n) (rootsIn n buffer) leaf
+    ≡ pushed n (rootsIn n buffer) leaf
+unfolding pushed
 push-law buffer n to k leaf {node} p room isTo isK long isNode isY =
     let from = to - k in
     let few = p .room in
@@ -91,7 +92,7 @@ grown-start bytes chunks buffer =
 -- one leaf more, at the end
 grown-snoc : (n i : ℕ) (roots : List Node) (bytes : List ℕ) →
     grown n roots (map leaf (pieces chunkBytes (suc i) bytes))
-    ≡ joined (onesAtEnd (n + i)) (grown n roots (map leaf (pieces chunkBytes i bytes))) (leaf (take chunkBytes (drop (i * chunkBytes) bytes)))
+    ≡ pushed (n + i) (grown n roots (map leaf (pieces chunkBytes i bytes))) (leaf (take chunkBytes (drop (i * chunkBytes) bytes)))
 unfolding grown
 grown-snoc n i roots bytes =
     let front = pieces chunkBytes i bytes in
@@ -100,11 +101,11 @@ grown-snoc n i roots bytes =
     ap (λ (l : List (List ℕ)). grown n roots (map leaf l)) (pieces-snoc chunkBytes i bytes)
     ∙ ap (grown n roots) (map-append leaf front (last ∷ []))
     ∙ grown-append n roots (map leaf front) (leaf last ∷ [])
-    ∙ ap (λ (m : ℕ). joined (onesAtEnd (n + m)) (grown n roots (map leaf front)) (leaf last)) many
+    ∙ ap (λ (m : ℕ). pushed (n + m) (grown n roots (map leaf front)) (leaf last)) many
 
 pub grown-more : (bytes : List ℕ) (chunks : ℕ) (buffer₀ buffer : List ℕ) (i : ℕ) {node next : List ℕ} → i < length bytes / chunkBytes →
     Grown bytes chunks buffer₀ buffer i → node ≡ leaf (take chunkBytes (partTo (i * chunkBytes) bytes)) →
-    rootsIn (suc (chunks + i)) next ≡ joined (onesAtEnd (chunks + i)) (rootsIn (chunks + i) buffer) node → length next ≡ length buffer →
+    rootsIn (suc (chunks + i)) next ≡ pushed (chunks + i) (rootsIn (chunks + i) buffer) node → length next ≡ length buffer →
     Grown bytes chunks buffer₀ next (i + 1)
 grown-more bytes chunks buffer₀ buffer i {node} {next} h g isNode isNext long =
     record {
@@ -113,7 +114,7 @@ grown-more bytes chunks buffer₀ buffer i {node} {next} h g isNode isNext long 
       is =
           ap (λ (n : ℕ). rootsIn n next) (omega arith)
           ∙ isNext
-          ∙ ap₂ (λ (l : List Node) (m : Node). joined (onesAtEnd (chunks + i)) l m) (g .is)
+          ∙ ap₂ (λ (l : List Node) (m : Node). pushed (chunks + i) l m) (g .is)
           (isNode ∙ ap (λ (l : List ℕ). leaf (take chunkBytes l)) (part-all (i * chunkBytes) bytes))
           ∙ sym (grown-snoc chunks i (rootsIn chunks buffer₀) bytes)
           ∙ ap (λ (n : ℕ). grown chunks (rootsIn chunks buffer₀) (map leaf (pieces chunkBytes n bytes))) (sym (add-one i));

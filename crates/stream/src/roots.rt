@@ -6,7 +6,7 @@ ghost use lib.Count.{ones};
 ghost use lib.ListN.{length, take, drop};
 ghost use Rattle.tree.specs.code.Held.{held as nodes};
 ghost use Rattle.treerule.specs.Root.{chunkBytes, nodeBytes};
-ghost use Rattle.streamrule.specs.Held.{folded, onesAtEnd, joined, grown};
+ghost use Rattle.streamrule.specs.Held.{folded, onesAtEnd, pushed, grown};
 ghost use Rattle.stream.specs.State.{mostChunks, rootRoom};
 ghost use Rattle.stream.specs.Steps.{finished};
 ghost use Rattle.stream.specs.code.Buffer.{rootsIn};
@@ -60,7 +60,7 @@ pub(crate) fn fold(roots: &[u8], from: usize, to: usize, last: [u8; NODE]) -> [u
 // A leaf more: the last roots and it become one, in the place of the first of them.
 fn push(roots: &mut [u8], chunks: u64, leaf: [u8; NODE])
     requires { ⌜ (chunks < mostChunks) × (length (now roots) ≡ rootRoom) ⌝ }
-    ensures { λ _. ⌜ rootsIn (suc chunks) (now (roots .exit)) ≡ joined (onesAtEnd chunks) (rootsIn chunks (now (roots .entry))) leaf ⌝ }
+    ensures { λ _. ⌜ rootsIn (suc chunks) (now (roots .exit)) ≡ pushed chunks (rootsIn chunks (now (roots .entry))) leaf ⌝ }
 {
     let to = held(chunks);
     let from = to - joins(chunks);

@@ -15,7 +15,7 @@ use lib.Seq.{length-take-le, take-append-le, drop-append-le, take-all}
 use Rattle.fips.proofs.Roots.{lt-two-pow}
 use Rattle.treerule.specs.Root.{Node, parent, climb, top}
 use Rattle.treerule.proofs.Levels.{top-one, top-more}
-use Rattle.streamrule.specs.Held.{subtreesIn, subtrees, folded, joined, onesAtEndIn, onesAtEnd, grown}
+use Rattle.streamrule.specs.Held.{subtreesIn, subtrees, folded, joined, onesAtEnd, pushed, grown}
 use Rattle.streamrule.proofs.Ones.{ends-le, ends-above, ends-all, ones-next}
 use Rattle.streamrule.proofs.Folds.{folded-cons, length-joined, joined-cons, joined-all}
 
@@ -171,8 +171,8 @@ snoc-in (suc d) ns m few =
     ∙ snoc-in d ns m (omega arith)
     ∙ sym (ap (λ (l : List Node). joined (onesAtEnd (length ns)) l m) (without-digit d ns h))))
 
-pub subtrees-snoc : (ns : List Node) (m : Node) → subtrees (ns ++ (m ∷ [])) ≡ joined (onesAtEnd (length ns)) (subtrees ns) m
-unfolding subtrees
+pub subtrees-snoc : (ns : List Node) (m : Node) → subtrees (ns ++ (m ∷ [])) ≡ pushed (length ns) (subtrees ns) m
+unfolding subtrees pushed
 subtrees-snoc ns m =
     let n = length ns in
     let next : length (ns ++ (m ∷ [])) ≡ suc n = length-append ns (m ∷ []) ∙ add-one n in
@@ -181,11 +181,15 @@ subtrees-snoc ns m =
     ∙ ap (λ (l : List Node). joined (onesAtEnd n) l m) (without-digit n ns (lt-two-pow n))
 
 -- request 04: a leaf more is joined with as many roots as the number of leaves had ones at its end
+pub length-pushed : (n : ℕ) (roots : List Node) (leaf : Node) → length roots ≡ ones n →
+    length (pushed n roots leaf) + onesAtEnd n ≡ suc (length roots)
+unfolding pushed
+length-pushed n roots leaf e = length-joined (onesAtEnd n) roots leaf (omega (arith, ends-le n))
+
 pub joins : (ns : List Node) (m : Node) → length (subtrees (ns ++ (m ∷ []))) + onesAtEnd (length ns) ≡ suc (length (subtrees ns))
 joins ns m =
-    let k = onesAtEnd (length ns) in
-    ap (λ (l : List Node). length l + k) (subtrees-snoc ns m)
-    ∙ length-joined k (subtrees ns) m (omega (arith, held-ones ns, ends-le (length ns)))
+    ap (λ (l : List Node). length l + onesAtEnd (length ns)) (subtrees-snoc ns m)
+    ∙ length-pushed (length ns) (subtrees ns) m (held-ones ns)
 
 -- ---- leaves more
 
@@ -193,8 +197,7 @@ pub grown-append : (n : ℕ) (roots xs ys : List Node) → grown n roots (xs ++ 
 unfolding grown
 grown-append n roots [] ys = rw (add-zero n)
 grown-append n roots (x ∷ xs) ys =
-    grown-append (suc n) (joined (onesAtEnd n) roots x) xs ys
-    ∙ ap (λ (m : ℕ). grown m (grown (suc n) (joined (onesAtEnd n) roots x) xs) ys) (omega arith)
+    grown-append (suc n) (pushed n roots x) xs ys ∙ ap (λ (m : ℕ). grown m (grown (suc n) (pushed n roots x) xs) ys) (omega arith)
 
 pub grown-subtrees : (ns ms : List Node) → grown (length ns) (subtrees ns) ms ≡ subtrees (ns ++ ms)
 unfolding grown
@@ -211,7 +214,4 @@ pub length-grown : (n : ℕ) (roots leaves : List Node) → length roots ≡ one
 unfolding grown
 length-grown n roots [] e = e ∙ ap ones (sym (add-zero n))
 length-grown n roots (leaf ∷ leaves) e =
-    let k = onesAtEnd n in
-    length-grown (suc n) (joined k roots leaf) leaves
-    (omega (arith, length-joined k roots leaf (omega (arith, ends-le n)), ones-next n))
-    ∙ ap ones (omega arith)
+    length-grown (suc n) (pushed n roots leaf) leaves (omega (arith, length-pushed n roots leaf e, ones-next n)) ∙ ap ones (omega arith)

@@ -8,7 +8,7 @@ use lib.ListN.{length, getD, take, drop}
 use Rattle.treerule.specs.Root.{nodeBytes, Node, sha256, parent}
 use Rattle.treerule.proofs.Hashes.{length-sha256}
 use Rattle.treerule.proofs.Levels.{Whole}
-use Rattle.streamrule.specs.Held.{subtreesIn, subtrees, folded, joined, onesAtEnd, grown}
+use Rattle.streamrule.specs.Held.{subtreesIn, subtrees, folded, joined, onesAtEnd, pushed, grown}
 use Rattle.streamrule.proofs.Subtrees.{grown-subtrees}
 
 pub subtrees-grown : (ns : List Node) → subtrees ns ≡ grown 0 [] ns
@@ -54,11 +54,15 @@ module _ (P : Node → Type 0) (hashed : (bytes : List ℕ) → P (sha256 bytes)
       append-every (take stay roots) (folded last ∷ []) (take-every stay roots h)
       (one-every (folded last) (folded-every last (append-every (drop stay roots) (leaf ∷ []) (drop-every stay roots h) (one-every leaf e))))
 
+  pushed-every : (n : ℕ) (roots : List Node) (leaf : Node) → Every P roots → P leaf → Every P (pushed n roots leaf)
+  unfolding pushed
+  pushed-every n roots leaf h e = joined-every (onesAtEnd n) roots leaf h e
+
   pub grown-every : (n : ℕ) (roots leaves : List Node) → Every P roots → Every P leaves → Every P (grown n roots leaves)
   unfolding grown
   grown-every n roots [] h g = h
   grown-every n roots (leaf ∷ leaves) h g =
-      grown-every (suc n) (joined (onesAtEnd n) roots leaf) leaves (joined-every (onesAtEnd n) roots leaf h (g 0)) (λ i. g (suc i))
+      grown-every (suc n) (pushed n roots leaf) leaves (pushed-every n roots leaf h (g 0)) (λ i. g (suc i))
 
   pub subtrees-every : (ns : List Node) → Every P ns → Every P (subtrees ns)
   subtrees-every ns h = rw (subtrees-grown ns) (grown-every 0 [] ns (λ i. hashed []) h)

@@ -42,7 +42,11 @@ onesAtEndIn (suc d) n = cond (eqb (n % 2) 1) (suc (onesAtEndIn d (n / 2))) 0
 unfoldable pub onesAtEnd : ℕ → ℕ
 onesAtEnd n = onesAtEndIn n n
 
--- the roots once leaves have followed the first n: each is joined with as many as there are ones at the end of the number before it
+-- a leaf behind the first n: it is joined with as many roots as there are ones at the end of that number
+unfoldable pub pushed : ℕ → List Node → Node → List Node
+pushed n roots leaf = joined (onesAtEnd n) roots leaf
+
+-- leaves behind the first n, one after the other
 unfoldable pub grown : ℕ → List Node → List Node → List Node
 grown n roots [] = roots
-grown n roots (leaf ∷ leaves) = grown (suc n) (joined (onesAtEnd n) roots leaf) leaves
+grown n roots (leaf ∷ leaves) = grown (suc n) (pushed n roots leaf) leaves
