@@ -1,4 +1,4 @@
-/* Dwombarine: SHA-2 at once, half-read messages in a table of bays, chunk trees and digest lists.
+/* Dwombarine: SHA-2 at once, half-read messages in a table of bays, chunk trees, whole and over a stream, and digest lists.
  *
  * A message in pieces, saved halfway and finished from its record in another bay, as after a restart, or on another machine. Each call here
  * answers DW_DONE; a program asks whether it did.
@@ -21,9 +21,9 @@
  *
  * Memory: the caller owns all of it and lends it for the length of the call. Nothing is allocated, and no pointer is kept. A pointer comes
  * with its count of elements; what a call writes overlaps nothing else that is lent to it. A refused call (not 0) writes nothing to a
- * table, an output or a list's buffer; ask and lookup then set their two values to 0. Digests, records, roots and lists are written at the
- * front of the output, and the bytes behind them stay as they were. A table is aligned as uint64_t is, and so are the two values; bytes
- * need no alignment.
+ * table, a stream, an output or a list's buffer; ask and lookup then set their two values to 0. Digests, records, roots and lists are
+ * written at the front of the output, and the bytes behind them stay as they were. A table and a stream are aligned as uint64_t is, and so
+ * are the two values; bytes need no alignment.
  *
  * Null: no pointer may be null, not even that of an empty buffer. Where the count is 0, pass the address of anything.
  *
@@ -32,16 +32,17 @@
  * x86-64 and on Arm, the larger of both. A thread with a small stack has to have as much to spare; two macros below have it in round
  * numbers.
  *
- * Threads: nothing is kept between calls but what stands in a table, or in a buffer with a list. Calls on different tables, and calls on
- * none, may run at once, each with outputs of its own, and a buffer in which a list is written is such an output; on one table only dw_ask
- * and dw_save may run beside each other. None may read what another writes: no dw_judge beside a dw_list_put on one buffer.
+ * Threads: nothing is kept between calls but what stands in a table, in a stream, or in a buffer with a list. Calls on different tables or
+ * streams, and calls on none, may run at once, each with outputs of its own, and a buffer in which a list is written is such an output; on
+ * one table only dw_ask and dw_save may run beside each other, and on one stream only dw_stream_root beside itself. None may read what
+ * another writes: no dw_judge beside a dw_list_put on one buffer.
  *
  * C++: include this as it is; the names are extern "C", and nothing throws. Answers are uint64_t and compare with the names of the enums as
  * they are; to make an enum of one takes a cast. An edition of the enum is passed as it is. data() of an empty std::vector, std::span or
  * std::string_view may be null: pass the address of something else then.
  *
- * Machines: a record and a list mean the same on every machine. A table belongs to the machine it was made on: its words are in that
- * machine's own byte order. size_t must have 64 bits, which is checked below.
+ * Machines: a record and a list mean the same on every machine. A table and a stream belong to the machine they were made on: their words
+ * are in that machine's own byte order. size_t must have 64 bits, which is checked below.
  *
  * Versions: until 1.0 the second number of DW_VERSION grows whenever a signature, a number or a size of this header changes, or what a call
  * makes of the same bytes, and the name by which the shared library is loaded with it. So a program that was compiled with another header
@@ -49,7 +50,7 @@
  *
  * Linking: the library needs memcpy and memset of the C library, and nothing else.
  *
- * Proved: the fourteen calls, down to every byte that they write. Not proved, but tested: this header and dw_answer_text, which are C.
+ * Proved: the seventeen calls, down to every byte that they write. Not proved, but tested: this header and dw_answer_text, which are C.
  */
 #ifndef DWOMBARINE_H
 #define DWOMBARINE_H
@@ -61,7 +62,7 @@
 extern "C" {
 #endif
 
-#define DW_VERSION "0.3.0"
+#define DW_VERSION "0.4.0"
 
 /* the library takes every count as 64 bits: where size_t has not so many, this does not compile */
 typedef char dw_size_t_has_64_bits[sizeof(size_t) == 8 ? 1 : -1];
@@ -74,7 +75,7 @@ enum dw_answer {
     DW_BAY_TAKEN = 3,       /* a message is in the bay */
     DW_BAY_EMPTY = 4,       /* none is */
     DW_NO_SUCH_EDITION = 5, /* not one of the six below */
-    DW_NOT_SOUND = 6,       /* the bay's words are damaged: dw_drop empties it */
+    DW_NOT_SOUND = 6,       /* the bay's words are damaged: dw_drop empties it; or the stream's are, or too few: it is begun anew */
     DW_TOO_LONG = 7,        /* would pass a length limit */
     DW_BAD_CLOSING = 8,     /* more than 7 closing bits, or a set bit below them */
     DW_SHORT_OUTPUT = 9,    /* the result does not fit */
@@ -116,6 +117,9 @@ enum dw_edition {
 #define DW_ROOT_BYTES 32
 #define DW_LONGEST_MAP 1048576
 #define DW_LONGEST_LIST 34832
+/* words of a stream; words behind them are the caller's and never change; and the longest map that a stream takes, 2^32 chunks */
+#define DW_STREAM_WORDS 258
+#define DW_LONGEST_STREAM ((uint64_t)1 << 42)
 /* bytes of the list that a buffer has at its front, a size_t: a list tells its own length in its bytes 12 to 15, most significant first. Of
  * bytes that are no list it reads whatever stands there; a buffer of fewer than 16 bytes has no such bytes, and no list. So it is for a
  * buffer on which a start or a put was done, or to be compared with the buffer's bytes first: of other bytes it may say more than there
@@ -159,6 +163,28 @@ uint64_t dw_drop(uint64_t *table, size_t words, uint64_t bay);
  * RFC 6962, section 2.1, with the chunks of 1,024 bytes as entries, the last of what is left. Roots from before 0.3 are void, but for those
  * of at most 1,024 bytes. 7, 9. */
 uint64_t dw_tree(const uint8_t *map, size_t n, uint8_t *out, size_t out_n);
+
+/* To begin the root of a map that comes in pieces, over memory that held anything: a stream of which nothing is taken. 9 for fewer words
+ * than DW_STREAM_WORDS. With `uint64_t stream[DW_STREAM_WORDS]` the root of a map of any length up to DW_LONGEST_STREAM is made by
+ *
+ *    dw_stream_begin(stream, DW_STREAM_WORDS);
+ *    while ((n = fread(piece, 1, sizeof piece, map)) > 0)
+ *        dw_stream_add(stream, DW_STREAM_WORDS, piece, n);
+ *    dw_stream_root(stream, DW_STREAM_WORDS, root, DW_ROOT_BYTES);
+ *
+ * Word 0 is the number of finished chunks, of 1,024 bytes each; word 1 the number of bytes after them; words 2 to 129 are the roots of full
+ * subtrees, one for each one bit of word 0, the largest first, four words each; words 130 to 257 are the bytes after the chunks. Bytes lie
+ * in words most significant first, and all that is not used is zero: any other words, or fewer, are no sound stream. What the roots are is
+ * not judged. To put a stream aside is to copy its words. */
+uint64_t dw_stream_begin(uint64_t *stream, size_t words);
+
+/* For each piece of the map, of any length: takes n bytes more, DW_LONGEST_STREAM in all. How the map is cut into pieces changes nothing.
+ * 6, 7. */
+uint64_t dw_stream_add(uint64_t *stream, size_t words, const uint8_t *piece, size_t n);
+
+/* For the root of all bytes taken so far: writes the 32 bytes that dw_tree writes of them, where it takes so many. The stream stays as it
+ * is, and may go on. 6, 9. */
+uint64_t dw_stream_root(const uint64_t *stream, size_t words, uint8_t *out, size_t out_n);
 
 /* To hold a digest against a list: is it the one that the list has for the name? Each call reads the whole list again, to know that it is
  * one. 12, 13, 14. */

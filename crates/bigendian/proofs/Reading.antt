@@ -41,7 +41,8 @@ read-more d₀ s n d at i end v h e q f =
       words = f .words ∙ rw (k, add-one, take-suc-set d i v h, rest, word, append-snoc);
     }
 
-pub read-all : (d₀ s : List ℕ) (n : ℕ) (d : List ℕ) (at i : ℕ) → length d ≤ i → Read d₀ s n d at i → d ≡ map word64 (toWords (length d₀) n s)
+pub read-all : (d₀ s : List ℕ) (n : ℕ) (d : List ℕ) (at i : ℕ) → length d ≤ i → Read d₀ s n d at i →
+    d ≡ map word64 (toWords (length d₀) n s)
 unfolding toWords
 read-all d₀ s n d at i h f =
     let z : length d₀ - i ≡ 0 = omega arith in

@@ -78,7 +78,7 @@ fn end_of(at: usize, n: usize, len: usize) -> usize
 
 // Words of n bytes each from the front of s, as many as d has; where s runs out, of the bytes that are left.
 fn cut_words(d: &mut [u64], s: &[u8], n: usize)
-    ensures { λ r. ⌜ now (d .exit) ≡ map word64 (toWords (length (now (d .entry))) n (now (s .entry))) ⌝ }
+    ensures { λ _. ⌜ now (d .exit) ≡ map word64 (toWords (length (now (d .entry))) n (now (s .entry))) ⌝ }
 {
     let mut at = 0;
     let mut i = 0;
@@ -100,9 +100,9 @@ pub fn get_words(d: &mut [u64], s: &[u8], n: usize)
     let mut at = 0;
     let mut i = 0;
     while i < m {
-        let end = at + n;
-        d[i] = get(&s[at..end]);
-        at = end;
+        let next = at + n;
+        d[i] = get(&s[at..next]);
+        at = next;
         i += 1;
     }
     cut_words(&mut d[i..], &s[at..], n);

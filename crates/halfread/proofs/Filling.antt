@@ -1,11 +1,9 @@
 -- A begun block is filled from the front of a piece, and the rest of the piece follows: the steps that `with_piece` takes are `added`.
 -- Main statements: `fills-short`, where the block is not filled, and `fills-long`, where it is or none was begun.
-use Prim.Native.Nat.{ℕ, zero, suc, _+_, _-_, _*_, _/_, _%_, _≤_, _<_}
+use Prim.Native.Nat.{ℕ, _+_, _-_, _*_, _/_, _≤_, _<_}
 use mathlib.Core.Bool.{true}
 use mathlib.Core.List.{List, _++_, append-assoc}
-use mathlib.Core.Logic.{_⊎_, inl, inr, ⊎-elim}
 use mathlib.Core.Path.{_≡_, refl, sym, ap, ap₂, _∙_}
-use native.Mathlib.Nat.{mod-eq-of-lt, mod-self, sub-zero, zero-mul, one-mul}
 use native.Mathlib.Omega.{arith}
 use lib.ListN.{length, take, drop, replicate, length-append, take-append-drop}
 use lib.Seq.{length-take-le, take-append-add}
@@ -75,7 +73,8 @@ module _ (h : HalfRead) (long : length (h .tail) ≡ tailRoom) (ok : sound h ≡
       ap (λ (l : List ℕ). P ++ l) (sym (take-append-drop m piece)) ∙ sym (append-assoc P (take m piece) R) in
       let front : take (from + lack size from) tail ≡ A =
       ap₂ take (ap₂ _+_ isFrom isM) isTail
-      ∙ front-padded tailRoom (waiting h piece) (n + m) (omega (arith, w .2, block-within e)) (rw (length-waiting h long piece) (omega arith))
+      ∙ front-padded tailRoom (waiting h piece) (n + m) (omega (arith, w .2, block-within e)) (rw (length-waiting h long piece)
+      (omega arith))
       ∙ ap (λ (k : ℕ). take (k + m) (P ++ piece)) (sym lp)
       ∙ take-append-add P piece m in
       let after : partTo (lack size from) piece ≡ R = part-all (lack size from) piece ∙ ap (λ (k : ℕ). drop k piece) isM in

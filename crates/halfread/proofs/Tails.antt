@@ -1,11 +1,10 @@
 -- A tail: bytes with zeros behind them. Laws of `padded` and `pending`.
-use Prim.Native.Nat.{ℕ, zero, suc, _+_, _-_, _≤_}
-use mathlib.Core.List.{List, [], _∷_, _++_, append-assoc, append-nil}
-use mathlib.Core.Path.{_≡_, refl, sym, ap, ap₂, _∙_}
+use Prim.Native.Nat.{ℕ, zero, suc, _-_, _≤_}
+use mathlib.Core.List.{List, [], _∷_, _++_}
+use mathlib.Core.Path.{_≡_, refl, ap, _∙_}
 use native.Mathlib.Omega.{arith}
-use lib.Dec.{lit<}
-use lib.ListN.{length, getD, take, drop, replicate, length-append, length-replicate, length-take, drop-of-length-le}
-use lib.Seq.{take-all, take-at, drop-at, take-append-add, take-append-le, take-take, length-take-le}
+use lib.ListN.{length, getD, take, drop, replicate}
+use lib.Seq.{length-take-le}
 use Rattle.slices.specs.Below.{Bytes}
 use Rattle.slices.proofs.Padded as room
 use Rattle.halfread.specs.declared.HalfRead.{HalfRead}

@@ -4,7 +4,8 @@ use Prim.Native.Nat.{ℕ, zero, suc, _+_, _-_, _*_, _/_, _%_, _≤_, _<_}
 use mathlib.Core.List.{List, _++_}
 use mathlib.Core.Logic.{_⊎_, inl, inr, ⊎-elim}
 use mathlib.Core.Path.{_≡_, refl, sym, ap, _∙_}
-use native.Mathlib.Nat.{div-add-mod', div-mul-le-self, div-eq-of-lt, mul-add-div-right, add-mul, zero-mul, one-mul, mod-eq-of-lt, mod-self, sub-zero}
+use native.Mathlib.Nat.{div-add-mod', div-mul-le-self, div-eq-of-lt, mul-add-div-right, add-mul}
+use native.Mathlib.Nat.{zero-mul, one-mul, mod-eq-of-lt, mod-self, sub-zero}
 use native.Mathlib.Omega.{arith}
 use lib.ListN.{length, take, drop, length-append, length-drop}
 use lib.Seq.{length-take-le, drop-append-add}

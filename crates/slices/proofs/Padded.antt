@@ -6,7 +6,8 @@ use mathlib.Core.List.{List, _++_, append-assoc, append-nil}
 use mathlib.Core.Path.{_≡_, sym, ap, ap₂, _∙_}
 use native.Mathlib.Omega.{arith}
 use lib.Dec.{lit<}
-use lib.ListN.{length, take, drop, replicate, length-append, length-replicate, length-take, length-drop, drop-of-length-le, take-append-drop}
+use lib.ListN.{length, take, drop, replicate, length-append}
+use lib.ListN.{length-replicate, length-take, length-drop, drop-of-length-le, take-append-drop}
 use lib.Seq.{take-all, take-at, drop-at, take-append-add, take-append-le, take-take, length-take-le}
 use Rattle.slices.specs.Below.{Bytes}
 use Rattle.slices.specs.AtFront.{atFront}

@@ -1,8 +1,8 @@
--- Bytes that follow the finished chunks of a stream, in two runs of which the first is whole chunks: `taken-law`. The chunks of both are the
--- chunks of one after the other: `finished-append`.
-use Prim.Native.Nat.{ℕ, zero, suc, _+_, _-_, _*_, _/_, _%_, _<_, _≤_}
-use mathlib.Core.List.{List, [], _∷_, _++_, map, map-append, flatten}
-use mathlib.Core.Path.{_≡_, refl, sym, ap, ap₂, _∙_}
+-- Bytes that follow the finished chunks of a stream, in two runs of which the first is whole chunks: `taken-law`. The chunks of both are
+-- the chunks of one after the other: `finished-append`.
+use Prim.Native.Nat.{ℕ, _+_, _-_, _*_, _/_, _≤_}
+use mathlib.Core.List.{List, _++_, map, map-append, flatten}
+use mathlib.Core.Path.{_≡_, sym, ap, ap₂, _∙_}
 use native.Mathlib.Omega.{arith}
 use lib.Count.{ones}
 use lib.ListN.{length, take, drop, length-append, length-map}
@@ -69,7 +69,8 @@ unfolding stateOf
 taken-law n roots xs ys one two {count} {at} {kept} {behind} whole most room isOne isTwo isCount isAt isKept isBehind =
     let last = n + length xs / chunkBytes + length ys / chunkBytes in
     let few = few-roots last most in
-    let over : rest chunkBytes (xs ++ ys) ≡ rest chunkBytes ys = rest-append chunkBytes (length xs / chunkBytes) xs ys (omega arith) whole in
+    let over : rest chunkBytes (xs ++ ys) ≡ rest chunkBytes ys = rest-append chunkBytes (length xs / chunkBytes) xs ys
+    (omega arith) whole in
     let tail : partTo at ys ≡ rest chunkBytes (xs ++ ys) = part-all at ys ∙ ap (λ (m : ℕ). drop m ys) isAt ∙ sym over in
     let held : rootsIn last two ≡ grown n (rootsIn n roots) (finished (xs ++ ys)) =
     isTwo

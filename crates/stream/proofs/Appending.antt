@@ -1,24 +1,23 @@
 -- Pieces one after the other. A sound stream stays sound (`added-fits`, `added-sound`); a piece and then another are the two in one
--- (`added-append`); what bytes lead to is what adding them from the beginning leaves (`stream-added`); and its root is the root of the chunk
--- tree (`stream-top`).
+-- (`added-append`); what bytes lead to is what adding them from the beginning leaves (`stream-added`); and its root is the root of the
+-- chunk tree (`stream-top`).
 use Prim.Native.Nat.{ℕ, _+_, _*_, _/_, _<_, _≤_}
 use mathlib.Core.Bool.{true}
-use mathlib.Core.List.{List, [], _∷_, _++_, append-assoc, append-nil, map, map-append, flatten}
+use mathlib.Core.List.{List, [], _++_, append-assoc, map, map-append}
 use mathlib.Core.Path.{_≡_, refl, sym, ap, ap₂, _∙_}
 use native.Mathlib.Nat.{zero-add}
 use native.Mathlib.Omega.{arith}
 use lib.Count.{ones}
-use lib.ListN.{length, take, drop, length-append, length-map, take-append-drop}
-use lib.Seq.{length-take-le}
+use lib.ListN.{length, take, length-append, length-map, take-append-drop}
 use Rattle.slices.specs.Blocks.{rest}
-use Rattle.slices.proofs.Blocks.{length-rest, rest-append, length-whole}
+use Rattle.slices.proofs.Blocks.{length-rest, length-whole}
 use Rattle.fips.specs.Bits.{pieces}
 use Rattle.treerule.specs.Root.{chunkBytes, nodeBytes, chunkCount, Node, leaf, chunks, top, root}
 use Rattle.treerule.proofs.Levels.{Whole, leaves-whole}
 use Rattle.treerule.proofs.Pieces.{pieces-front, pieces-append}
 use Rattle.treerule.proofs.Root.{length-chunks}
 use Rattle.streamrule.specs.Held.{subtreesIn, subtrees, folded, grown}
-use Rattle.streamrule.proofs.Subtrees.{held-ones, folded-top, grown-append, length-grown}
+use Rattle.streamrule.proofs.Subtrees.{held-ones, folded-top, length-grown}
 use Rattle.streamrule.proofs.Wholes.{length-folded, whole-none, whole-append, whole-grown, whole-subtrees, subtrees-grown}
 use Rattle.stream.specs.declared.Stream.{Stream}
 use Rattle.stream.specs.State.{stateOf, begun, held, further, sound, Shaped}

@@ -27,7 +27,8 @@ held-padded room k ns e h whole =
     ap₂ (λ (n : ℕ) (l : List ℕ). held n l) (sym e) (padded-room room (flatten ns) (omega arith))
     ∙ held-flat ns (replicate (room - length (flatten ns)) 0) whole
 
-pub held-form : (room k : ℕ) (buffer : List ℕ) → length buffer ≡ room → k * nodeBytes ≤ room → allZero (drop (k * nodeBytes) buffer) ≡ true →
+pub held-form : (room k : ℕ) (buffer : List ℕ) → length buffer ≡ room → k * nodeBytes ≤ room →
+    allZero (drop (k * nodeBytes) buffer) ≡ true →
     buffer ≡ padded room (flatten (held k buffer))
 held-form room k buffer long h clear =
     zeros-padded room (k * nodeBytes) buffer long h clear ∙ ap (padded room) (sym (flat-held k buffer (omega arith)))

@@ -1,13 +1,13 @@
 -- A begun chunk is filled from the front of a piece, and the rest of the piece follows: the steps of `with_piece` are `added`. Main
 -- statements: `fills-short`, where the chunk is not filled, and `fills-long`, where it is or none was begun.
-use Prim.Native.Nat.{ℕ, _+_, _-_, _*_, _/_, _≤_, _<_}
+use Prim.Native.Nat.{ℕ, _+_, _-_, _/_, _≤_, _<_}
 use mathlib.Core.Bool.{true}
 use mathlib.Core.List.{List, [], _++_, append-assoc, map, flatten}
-use mathlib.Core.Path.{_≡_, refl, sym, ap, ap₂, _∙_}
+use mathlib.Core.Path.{_≡_, sym, ap, ap₂, _∙_}
 use native.Mathlib.Nat.{add-zero}
 use native.Mathlib.Omega.{arith}
 use lib.Count.{ones}
-use lib.ListN.{length, take, drop, replicate, length-append, length-take, take-append-drop}
+use lib.ListN.{length, take, drop, replicate, length-append, take-append-drop}
 use lib.Seq.{length-take-le, take-append-add}
 use Rattle.slices.specs.AtFront.{atFront}
 use Rattle.slices.specs.Blocks.{rest}
@@ -39,7 +39,8 @@ module _ (s : Stream) (shape : Shaped s) (ok : sound s ≡ true) (piece : List �
 
   -- the piece behind the bytes, as much as there is room for
   pub filled : (mid : List ℕ) → mid ≡ atFront piece (take (chunkBytes - s .further) (drop (s .further) (s .bytes))) →
-      take (s .further) (s .bytes) ++ (mid ++ drop (chunkBytes - s .further) (drop (s .further) (s .bytes))) ≡ padded chunkBytes (waiting s piece)
+      take (s .further) (s .bytes) ++ (mid ++ drop (chunkBytes - s .further) (drop (s .further) (s .bytes))) ≡ padded chunkBytes
+      (waiting s piece)
   filled mid isMid =
       let has = sound-has s ok in
       let zeros : drop (s .further) (s .bytes) ≡ replicate (chunkBytes - s .further) 0 =
@@ -64,7 +65,8 @@ module _ (s : Stream) (shape : Shaped s) (ok : sound s ≡ true) (piece : List �
       (isBytes ∙ ap (padded chunkBytes) (sym same))
 
   -- the two runs are what waits: the begun chunk, filled, and the rest of the piece
-  module _ {bytes : List ℕ} (isBytes : bytes ≡ padded chunkBytes (waiting s piece)) (long : lack chunkBytes (s .further) ≤ length piece) where
+  module _ {bytes : List ℕ} (isBytes : bytes ≡ padded chunkBytes (waiting s piece)) (long : lack chunkBytes
+      (s .further) ≤ length piece) where
     abbrev lead : ℕ
     lead = lack chunkBytes (s .further)
 
@@ -101,7 +103,8 @@ module _ (s : Stream) (shape : Shaped s) (ok : sound s ≡ true) (piece : List �
 
     pub fills-long : {r : Stream} →
         r ≡ stateOf (s .chunks + length (begun ++ partTo lead piece) / chunkBytes)
-        (grown (s .chunks) (rootsIn (s .chunks) (s .roots)) (finished (begun ++ partTo lead piece))) (rest chunkBytes (begun ++ partTo lead piece)) →
+        (grown (s .chunks) (rootsIn (s .chunks) (s .roots)) (finished (begun ++ partTo lead piece))) (rest chunkBytes
+        (begun ++ partTo lead piece)) →
         r ≡ added s piece
     unfolding added
     fills-long isR =

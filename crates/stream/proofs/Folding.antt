@@ -1,9 +1,9 @@
 -- Roots folded from the last to the first: the loop's invariant and its turns.
-use Prim.Native.Nat.{ℕ, zero, suc, _+_, _-_, _*_, _<_, _≤_}
+use Prim.Native.Nat.{ℕ, suc, _+_, _-_, _*_, _<_, _≤_}
 use mathlib.Core.List.{List, [], _∷_, _++_, append-assoc}
-use mathlib.Core.Path.{_≡_, refl, sym, ap, ap₂, _∙_}
+use mathlib.Core.Path.{_≡_, refl, sym, ap, _∙_}
 use native.Mathlib.Omega.{arith}
-use lib.ListN.{length, take, drop, length-drop}
+use lib.ListN.{take, drop}
 use lib.Seq.{drop-drop}
 use Rattle.slices.proofs.Parts.{partTo, part-all}
 use Rattle.fips.specs.Bits.{pieces}

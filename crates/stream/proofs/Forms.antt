@@ -1,26 +1,24 @@
--- The form of a stream. What it holds is read back (`form-held`, `form-further`), it is sound (`form-sound`), and a sound stream is the form of
--- what it holds (`one-form`), so that two which hold the same are the same (`same-form`).
+-- The form of a stream. What it holds is read back (`form-held`, `form-further`), it is sound (`form-sound`), and a sound stream is the
+-- form of what it holds (`one-form`), so that two which hold the same are the same (`same-form`).
 use Prim.Native.Nat.{ℕ, _+_, _*_, _<_, _≤_}
 use mathlib.Core.Bool.{true}
-use mathlib.Core.List.{List, [], _∷_, flatten}
+use mathlib.Core.List.{List, flatten}
 use mathlib.Core.Path.{_≡_, refl, sym, ap, ap₂, _∙_}
 use native.Mathlib.Omega.{arith}
 use lib.Count.{ones}
-use lib.ListN.{length, take, drop}
-use lib.Seq.{length-take-le}
-use Rattle.slices.specs.Padded.{padded}
-use Rattle.slices.specs.Tests.{holds, allZero}
+use lib.ListN.{length}
+use Rattle.slices.specs.Tests.{holds}
 use Rattle.slices.proofs.Padded.{length-padded, take-padded, zeros-padded, padded-clear}
 use Rattle.treerule.specs.Root.{chunkBytes, nodeBytes, Node}
 use Rattle.treerule.proofs.Levels.{Whole}
 use Rattle.treerule.proofs.Pieces.{length-pieces}
 use Rattle.tree.proofs.Held.{held-whole, length-flat}
 use Rattle.stream.specs.declared.Stream.{Stream}
-use Rattle.stream.specs.State.{mostChunks, rootRoom, stateOf, countRules, held, further, sound, Shaped}
+use Rattle.stream.specs.State.{rootRoom, stateOf, countRules, held, further, sound, Shaped}
 use Rattle.stream.specs.Steps.{streamLimit}
 use Rattle.stream.proofs.Limits.{few-roots}
 use Rattle.stream.proofs.Buffers.{held-padded, held-form}
-use Rattle.stream.proofs.Soundness.{Counts, counts-within, by-bytes, Sound, sound-has, length-further}
+use Rattle.stream.proofs.Soundness.{counts-within, by-bytes, Sound, sound-has, length-further}
 use Rattle.stream.proofs.Adding.{same-stream}
 
 -- what a form is made of: as many whole roots as the number of chunks has ones, and the limit is kept

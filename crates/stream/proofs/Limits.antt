@@ -1,10 +1,12 @@
--- The limit of a stream: how many roots are held below it, `few-roots`, and when a piece passes it, `past-room`.
-use Prim.Native.Nat.{ℕ, _+_, _-_, _*_, _^_, _<_, _≤_}
+-- The limit of a stream: how many roots are held below it, `few-roots`, and when a piece passes it, `past-room`. Counts of bits are small:
+-- `count-fits`.
+use Prim.Native.Nat.{ℕ, _+_, _-_, _*_, _^_, _≤_}
 use mathlib.Core.Bool.{Bool, true, false}
-use mathlib.Core.Logic.{_⊎_, inl, inr}
 use mathlib.Core.Path.{_≡_, refl, sym, ap, _∙_}
 use native.Mathlib.Omega.{arith}
 use borrow.Author.Tests.{ltb-true, ltb-false, lt-ltb, le-ltb}
+use mir.Syntax.{w64}
+use mir.Val.{Fits}
 use lib.Count.{ones, ones-le, ones-cat}
 use lib.Dec.{ltb}
 use Rattle.stream.specs.State.{mostChunks}
@@ -30,3 +32,7 @@ few-roots n most = go (ltb n mostChunks) refl
     go : (b : Bool) → ltb n mostChunks ≡ b → ones n ≤ 32
     go true e = ones-le 32 n (ltb-true n mostChunks e)
     go false e = at-limit n (omega (arith, ltb-false n mostChunks e))
+
+-- a count of the bits of a word fits any integer
+pub count-fits : (n : ℕ) → n ≤ 64 → Fits w64 n
+count-fits n few = record { fits = omega arith }

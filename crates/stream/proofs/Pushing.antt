@@ -1,5 +1,5 @@
 -- A leaf more, and leaves more, in the buffer of roots: `push-law`; `Grown` is the loop's invariant, with its turns.
-use Prim.Native.Nat.{ℕ, zero, suc, _+_, _-_, _*_, _/_, _<_, _≤_}
+use Prim.Native.Nat.{ℕ, suc, _+_, _-_, _*_, _/_, _<_, _≤_}
 use mathlib.Core.List.{List, [], _∷_, _++_, append-nil, map, map-append}
 use mathlib.Core.Path.{_≡_, refl, sym, ap, ap₂, _∙_}
 use native.Mathlib.Nat.{add-zero}
@@ -14,7 +14,7 @@ use Rattle.slices.proofs.Parts.{partTo, part-all}
 use Rattle.fips.specs.Bits.{pieces}
 use Rattle.treerule.specs.Root.{chunkBytes, nodeBytes, Node, leaf}
 use Rattle.treerule.proofs.Pieces.{length-pieces, pieces-snoc, pieces-take, pieces-drop}
-use Rattle.tree.specs.code.Held.{held, putNode}
+use Rattle.tree.specs.code.Held.{held}
 use Rattle.tree.proofs.Held.{held-put}
 use Rattle.streamrule.specs.Held.{folded, onesAtEnd, joined, pushed, grown}
 use Rattle.streamrule.proofs.Ones.{ends-le, ones-next}

@@ -1,22 +1,19 @@
 -- What a sound stream has, `Sound`; that it is the one form of what it holds, `one-form`; and that such a form is sound, `form-sound`.
 use Prim.Native.Nat.{ℕ, zero, suc, _+_, _-_, _*_, _<_, _≤_}
 use mathlib.Core.Bool.{Bool, true, false, false≢true, cond, _||_}
-use mathlib.Core.List.{List, [], _∷_, _++_, flatten}
-use mathlib.Core.Path.{_≡_, refl, sym, ap, ap₂, _∙_}
+use mathlib.Core.List.{List, [], _∷_, _++_}
+use mathlib.Core.Path.{_≡_, refl, sym, ap, _∙_}
 use native.Mathlib.Omega.{arith}
 use borrow.Author.Tests.{leb-true, ltb-true, ltb-false, le-leb, lt-ltb, le-ltb, eqb-true, eq-eqb}
 use lib.Count.{ones}
-use lib.Dec.{leb, ltb, eqb}
-use lib.ListN.{length, getD, take, drop}
+use lib.Dec.{ltb, eqb}
+use lib.ListN.{length, getD, drop}
 use lib.Seq.{length-take-le}
 use Rattle.slices.specs.Parts.{part}
 use Rattle.slices.specs.Tests.{holds, allZero}
 use Rattle.slices.proofs.Parts.{part-all}
 use Rattle.slices.proofs.Tests.{holds-at, at-holds, fails-at, holds-on, holds-last}
-use Rattle.treerule.specs.Root.{chunkBytes, nodeBytes, Node}
-use Rattle.treerule.proofs.Levels.{Whole}
-use Rattle.treerule.proofs.Pieces.{length-pieces}
-use Rattle.tree.proofs.Held.{held-whole, length-flat}
+use Rattle.treerule.specs.Root.{chunkBytes, nodeBytes}
 use Rattle.stream.specs.declared.Stream.{Stream}
 use Rattle.stream.specs.State.{mostChunks, countRules, further, rules, sound, Shaped}
 use Rattle.stream.specs.Steps.{streamLimit}

@@ -5,8 +5,7 @@ use mathlib.Core.Bool.{not}
 use mathlib.Core.List.{List, [], _∷_, _++_, map}
 use lib.Dec.{ltb}
 use lib.ListN.{length}
-use Rattle.answers.specs.Judged.{Test, _when_, Judged}
-use Rattle.slices.specs.AtFront.{atFront}
+use Rattle.answers.specs.Judged.{Test, _when_}
 use Rattle.slices.specs.Blocks.{rest}
 use Rattle.fips.specs.Bits.{pieces}
 use Rattle.treerule.specs.Root.{chunkBytes, nodeBytes, Node, leaf, chunks}

@@ -1,5 +1,5 @@
 // Adding a piece: SPEC, "Tree over a stream". The chunks of a piece are taken where they lie.
-ghost use mathlib.Core.Bool.{true, false};
+ghost use mathlib.Core.Bool.{true};
 ghost use mathlib.Core.Path.{_≡_};
 ghost use mathlib.Core.List.{_++_};
 ghost use Prim.Native.Nat.{_+_, _*_, _/_, _≤_};

@@ -1,10 +1,10 @@
 -- Streams in lent words, as theorems about calls under C names that were made. `c-stream-of`: words that were begun and added to hold
 -- `streamOf` of all bytes; `c-stream-answers` and `c-root-answers`: no such call is told that the stream is not sound; `c-stream-root`: the
 -- root is that of the chunk tree. `c-begin-behind` and `c-add-behind`: the words behind a stream are never touched.
-use Prim.Native.Nat.{ℕ, zero, suc, _+_, _*_, _/_, _≤_, _<_}
+use Prim.Native.Nat.{ℕ, zero, suc, _+_, _*_, _/_, _≤_}
 use mathlib.Core.Bool.{Bool, true, false, cond}
 use mathlib.Core.List.{List, [], _∷_, _++_, flatten, map}
-use mathlib.Core.Path.{_≡_, refl, sym, ap, ap₂, subst, _∙_}
+use mathlib.Core.Path.{_≡_, refl, sym, ap, subst, _∙_}
 use native.Mathlib.Omega.{arith}
 use borrow.Author.Tests.{leb-true, leb-false, ltb-false, le-ltb}
 use denote.Ref.{now}
@@ -21,18 +21,18 @@ use Rattle.slices.proofs.AtFront.{atFront-room, length-atFront}
 use Rattle.slices.proofs.Below.{below-nil, below-append, below-drop}
 use Rattle.slices.proofs.Padded.{padded-bytes}
 use Rattle.fips.specs.Bits.{pieces}
-use Rattle.treerule.specs.Root.{chunkBytes, nodeBytes, Node, sha256, leaf, root}
+use Rattle.treerule.specs.Root.{chunkBytes, nodeBytes, Node, leaf, root}
 use Rattle.treerule.proofs.Hashes.{bytes-sha256}
 use Rattle.streamrule.specs.Held.{subtrees}
 use Rattle.streamrule.proofs.Wholes.{Every, subtrees-every}
 use Rattle.stream.specs.declared.Stream.{Stream}
-use Rattle.stream.specs.State.{rootRoom, stateOf, begun, sound, Shaped}
+use Rattle.stream.specs.State.{rootRoom, stateOf, begun}
 use Rattle.stream.specs.Steps as step
-use Rattle.stream.specs.Steps.{finished, streamOf, streamLimit, taken, added, streamRoot}
+use Rattle.stream.specs.Steps.{finished, streamOf, streamLimit, added, streamRoot}
 use Rattle.stream.proofs.Forms.{form-shaped}
 use Rattle.stream.proofs.Appending.{stream-none, stream-taken, stream-more, stream-sound, stream-top}
 use Rattle.streamwords.specs.Words.{streamWords, streamIn, wordsOf}
-use Rattle.streamwords.specs.Calls.{beginTests, addTests, Adds, rootTests, Roots}
+use Rattle.streamwords.specs.Calls.{beginTests, addTests, rootTests}
 use Rattle.streamwords.proofs.Packing.{length-wordsOf, packed-holds}
 use Rattle.capi.proofs.dw_stream_begin as begin
 use Rattle.capi.proofs.dw_stream_begin.Reads as begin-reads
@@ -41,7 +41,7 @@ use Rattle.capi.proofs.dw_stream_add.Reads as add-reads
 use Rattle.capi.proofs.dw_stream_root as rooting
 use Rattle.capi.proofs.dw_stream_root.Reads as rooting-reads
 use Rattle.streaming.specs.InC.{Lent, begun-in, added-in, kept-in}
-use Rattle.streaming.proofs.Passing.{AddPasses, add-passed, add-answers, root-answers}
+use Rattle.streaming.proofs.Passing.{add-passed, add-answers, root-answers}
 
 -- ---- what a stream is made of is bytes
 

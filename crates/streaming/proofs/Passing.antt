@@ -1,8 +1,8 @@
 -- When an add and a root are done: `add-passed` and `add-passes`, `root-passes`; and what an add answers to a sound stream, `add-answers`.
-use Prim.Native.Nat.{ℕ, _+_, _≤_, _<_}
-use mathlib.Core.Bool.{Bool, true, false, not, cond}
+use Prim.Native.Nat.{ℕ, _+_, _≤_}
+use mathlib.Core.Bool.{true, cond}
 use mathlib.Core.List.{List}
-use mathlib.Core.Path.{_≡_, refl, sym, ap, _∙_}
+use mathlib.Core.Path.{_≡_, _∙_}
 use borrow.Author.Tests.{ltb-false, le-ltb, not-false}
 use lib.Dec.{ltb}
 use lib.ListN.{length}
@@ -23,7 +23,8 @@ add-passed s piece e =
     let at = passed (addTests s piece) tt e in
     record { ok = not-false (sound s) (at 0); within = ltb-false streamLimit (taken s + length piece) (at 1) }
 
-pub add-answers : (s : Stream) (piece : List ℕ) → sound s ≡ true → first (addTests s piece) ≡ cond (ltb streamLimit (taken s + length piece)) 7 0
+pub add-answers : (s : Stream) (piece : List ℕ) → sound s ≡ true →
+    first (addTests s piece) ≡ cond (ltb streamLimit (taken s + length piece)) 7 0
 unfolding addTests first
 add-answers s piece ok = rw ok
 

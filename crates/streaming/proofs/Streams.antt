@@ -1,12 +1,12 @@
--- Streams by value, as theorems about calls that were made, each of which holds by the function's own contract. `stream-append`: a piece and
--- then another are done exactly where the two in one are, and leave the same. `stream-of`: pieces from the beginning lead to `streamOf` of
--- all bytes; `stream-answers`: none is refused but for the limit. `stream-root`: the root of the stream is that of the chunk tree, and up to
--- 1 MiB what a tree of the whole map writes, `stream-tree`. `begin-sound`, `add-sound`, `root-defined`: sound streams stay sound, and have
--- a root whatever their roots are.
-use Prim.Native.Nat.{ℕ, zero, suc, _+_, _≤_, _<_}
-use mathlib.Core.Bool.{Bool, true, false, cond}
-use mathlib.Core.List.{List, [], _++_}
-use mathlib.Core.Path.{_≡_, refl, sym, ap, ap₂, subst, _∙_}
+-- Streams by value, as theorems about calls that were made, each of which holds by the function's own contract. `stream-append`: a piece
+-- and then another are done exactly where the two in one are, and leave the same. `stream-of`: pieces from the beginning lead to `streamOf`
+-- of all bytes; `stream-answers`: none is refused but for the limit. `stream-root`: the root of the stream is that of the chunk tree, and
+-- up to 1 MiB what a tree of the whole map writes, `stream-tree`. `begin-sound`, `add-sound`, `root-defined`: sound streams stay sound, and
+-- have a root whatever their roots are.
+use Prim.Native.Nat.{ℕ, zero, suc, _+_, _≤_}
+use mathlib.Core.Bool.{true, cond}
+use mathlib.Core.List.{List, _++_}
+use mathlib.Core.Path.{_≡_, refl, sym, ap, ap₂, _∙_}
 use native.Mathlib.Omega.{arith}
 use borrow.Author.Tests.{ltb-false}
 use denote.Ref.{now}
@@ -23,7 +23,7 @@ use Rattle.slices.specs.AtFront.{atFront}
 use Rattle.treerule.specs.Root.{nodeBytes, Node, root}
 use Rattle.tree.specs.Tree.{treeTests, rooted}
 use Rattle.stream.specs.declared.Stream.{Stream}
-use Rattle.stream.specs.State.{begun, sound, Shaped}
+use Rattle.stream.specs.State.{sound, Shaped}
 use Rattle.stream.specs.Steps.{streamOf, streamLimit, taken, addTests, added, streamRoot}
 use Rattle.stream.proofs.Appending.{added-sound, added-taken, added-append, begun-sound, stream-none, stream-taken, stream-more}
 use Rattle.stream.proofs.Appending.{stream-sound, stream-top, root-length}
@@ -89,7 +89,8 @@ pub record Appends (a b both : Add) : Type 0 where
   pub second : Done both → Done b
   pub same : Done a → Done b → both .result .stream ≡ b .result .stream
 
-module _ (a b both : Add) (onA : before b ≡ a .result .stream) (alike : before both ≡ before a) (joins : piece both ≡ piece a ++ piece b) where
+module _ (a b both : Add) (onA : before b ≡ a .result .stream) (alike : before both ≡ before a)
+    (joins : piece both ≡ piece a ++ piece b) where
   abbrev s : Stream
   s = before a
 
@@ -209,12 +210,14 @@ module _ {bytes : List ℕ} {s : Stream} (t : Streamed bytes s) (m : Root) (on :
   stream-root d = done-leaves {r = m .result} (m .learnt .0) d ∙ ap (λ (n : Node). atFront n out) is-root
 
   -- a tree of the whole map that is done answers and writes the same
-  pub stream-tree : (w : Made tree.ended tree-reads.Learnt) → now (w .args .0) ≡ bytes → now (w .args .1 .0) ≡ out → w .result ≡ Answer.Done →
+  pub stream-tree : (w : Made tree.ended tree-reads.Learnt) → now (w .args .0) ≡ bytes → now (w .args .1 .0) ≡ out →
+      w .result ≡ Answer.Done →
       (m .result ≡ Answer.Done) × (now (exit m .1 .0) ≡ now (exit w .1 .0))
   unfolding rooted treeTests
   stream-tree w same room d =
       let at = passed (treeTests (now (w .args .0)) (now (w .args .1 .0))) tt (done-first {r = w .result} (w .learnt) d) in
-      let enough : nodeBytes ≤ length out = ltb-false (length out) nodeBytes (ap (λ (l : List ℕ). ltb (length l) nodeBytes) (sym room) ∙ at 1) in
+      let enough : nodeBytes ≤ length out = ltb-false (length out) nodeBytes (ap (λ (l : List ℕ). ltb (length l) nodeBytes)
+      (sym room) ∙ at 1) in
       let done = root-defined m (ap sound on ∙ streamed-sound t) enough .0 in (
         done,
         stream-root done

@@ -1,11 +1,10 @@
 -- Roots folded to one node, and a leaf joined with the last of them: `folded-cons`, `folded-last`; how many are left, `length-joined`; what
 -- stands before them stays, `joined-cons`; and all of them become one, `joined-all`.
-use Prim.Native.Nat.{ℕ, zero, suc, _+_, _-_, _<_, _≤_}
-use mathlib.Core.List.{List, [], _∷_, _++_, append-nil, append-assoc}
-use mathlib.Core.Path.{_≡_, refl, sym, ap, ap₂, _∙_}
-use native.Mathlib.Nat.{sub-zero, sub-self}
+use Prim.Native.Nat.{ℕ, suc, _+_, _-_, _<_, _≤_}
+use mathlib.Core.List.{List, [], _∷_, _++_}
+use mathlib.Core.Path.{_≡_, refl, sym, ap, _∙_}
 use native.Mathlib.Omega.{arith}
-use lib.ListN.{length, take, drop, length-append, length-take, length-drop, take-append-drop}
+use lib.ListN.{length, take, drop, length-append}
 use lib.Seq.{length-take-le}
 use Rattle.treerule.specs.Root.{Node, parent}
 use Rattle.streamrule.specs.Held.{folded, joined}

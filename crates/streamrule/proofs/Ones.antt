@@ -1,11 +1,11 @@
 -- Ones in a binary number. Those at its end are the zeros at the end of the next number: `ones-zeros`. The next number has so many ones
 -- less, and one more: `ones-next`.
-use Prim.Native.Nat.{ℕ, zero, suc, _+_, _-_, _*_, _/_, _%_, _^_, _<_, _≤_}
-use mathlib.Core.Bool.{Bool, true, false, cond}
+use Prim.Native.Nat.{ℕ, zero, suc, _+_, _/_, _%_, _^_, _<_, _≤_}
+use mathlib.Core.Bool.{cond}
 use mathlib.Core.Logic.{_⊎_, inl, inr}
 use mathlib.Core.Path.{_≡_, refl, sym, ap, _∙_}
 use native.Mathlib.Omega.{arith}
-use lib.Count.{ones, ones-step, trailingZeros, under}
+use lib.Count.{ones, ones-step, trailingZeros}
 use lib.Dec.{eqb}
 use Rattle.fips.proofs.Roots.{lt-two-pow}
 use Rattle.streamrule.specs.Held.{onesAtEndIn, onesAtEnd}

@@ -1,7 +1,7 @@
--- The roots of the full subtrees of leaves: as many as their number has ones, `held-ones`; folded, with at most one node behind them, they are
--- the top of all, `folded-top`; a leaf more is joined with as many as that number had ones at its end, `subtrees-snoc`.
+-- The roots of the full subtrees of leaves: as many as their number has ones, `held-ones`; folded, with at most one node behind them, they
+-- are the top of all, `folded-top`; a leaf more is joined with as many as that number had ones at its end, `subtrees-snoc`.
 use Prim.Native.Nat.{ℕ, zero, suc, _+_, _-_, _*_, _^_, _<_, _≤_}
-use mathlib.Core.Bool.{Bool, true, false, cond}
+use mathlib.Core.Bool.{Bool, true, false}
 use mathlib.Core.List.{List, [], _∷_, _++_, append-nil, append-assoc}
 use mathlib.Core.Path.{_≡_, refl, sym, ap, ap₂, _∙_}
 use native.Mathlib.Nat.{add-zero}
@@ -10,8 +10,8 @@ use native.Mathlib.Omega.{arith}
 use borrow.Author.Tests.{leb-true, leb-false, le-leb, lt-leb}
 use lib.Count.{ones, ones-cat, ones-ones}
 use lib.Dec.{leb}
-use lib.ListN.{length, take, drop, length-append, length-drop, take-append-drop}
-use lib.Seq.{length-take-le, take-append-le, drop-append-le, take-all}
+use lib.ListN.{length, take, drop, length-append, length-drop}
+use lib.Seq.{take-append-le, drop-append-le, take-all}
 use Rattle.fips.proofs.Roots.{lt-two-pow}
 use Rattle.treerule.specs.Root.{Node, parent, climb, top}
 use Rattle.treerule.proofs.Levels.{top-one, top-more}
@@ -84,7 +84,8 @@ none-or-some (n ∷ ns) none some = some (omega arith)
 
 -- the nodes behind a full subtree and those of its own, folded apart
 module _ (d : ℕ) (ns ys : List Node) (more : 2 ^ d ≤ length ns) (few : length (ns ++ ys) ≤ 2 * 2 ^ d) where
-  last-subtree : length (drop (2 ^ d) ns ++ ys) ≡ 0 → folded (top (take (2 ^ d) ns) ∷ (subtreesIn d (drop (2 ^ d) ns) ++ ys)) ≡ top (ns ++ ys)
+  last-subtree : length (drop (2 ^ d) ns ++ ys) ≡ 0 →
+      folded (top (take (2 ^ d) ns) ∷ (subtreesIn d (drop (2 ^ d) ns) ++ ys)) ≡ top (ns ++ ys)
   unfolding folded
   last-subtree none =
       let apart = length-append (drop (2 ^ d) ns) ys in
@@ -92,7 +93,8 @@ module _ (d : ℕ) (ns ys : List Node) (more : 2 ^ d ≤ length ns) (few : lengt
       let noYs : ys ≡ [] = no-length ys (omega arith) in
       ap₂ (λ (a b : List Node). folded (top (take (2 ^ d) ns) ∷ (subtreesIn d a ++ b))) noNs noYs
       ∙ ap (λ (a : List Node). folded (top (take (2 ^ d) ns) ∷ (a ++ []))) (none-held d)
-      ∙ ap top (take-all (2 ^ d) ns (omega (arith, length-drop (2 ^ d) ns)) ∙ sym (append-nil ns) ∙ ap (λ (a : List Node). ns ++ a) (sym noYs))
+      ∙ ap top (take-all (2 ^ d) ns (omega (arith, length-drop (2 ^ d) ns)) ∙ sym (append-nil ns) ∙ ap (λ (a : List Node). ns ++ a)
+      (sym noYs))
 
   more-subtrees : 0 < length (drop (2 ^ d) ns ++ ys) → 0 < length (subtreesIn d (drop (2 ^ d) ns) ++ ys) →
       folded (subtreesIn d (drop (2 ^ d) ns) ++ ys) ≡ top (drop (2 ^ d) ns ++ ys) →
@@ -161,7 +163,8 @@ snoc-in (suc d) ns m few =
     ends-all d (length ns) full ∙ sym (held-in d ns h ∙ ap ones pred ∙ ones-ones d) in
     with-digit d (ns ++ (m ∷ [])) g
     ∙ ap₂ (λ (a b : List Node). top a ∷ subtreesIn d b)
-    (take-all (2 ^ d) (ns ++ (m ∷ [])) (omega arith)) (no-length (drop (2 ^ d) (ns ++ (m ∷ []))) (length-drop (2 ^ d) (ns ++ (m ∷ [])) ∙ omega arith))
+    (take-all (2 ^ d) (ns ++ (m ∷ [])) (omega arith)) (no-length (drop (2 ^ d) (ns ++ (m ∷ []))) (length-drop (2 ^ d) (ns ++
+    (m ∷ [])) ∙ omega arith))
     ∙ ap₂ (λ (n : Node) (l : List Node). n ∷ l) (sym (folded-in d ns (m ∷ []) h (omega arith))) (none-held d)
     ∙ sym
     (ap (λ (l : List Node). joined (onesAtEnd (length ns)) l m) (without-digit d ns h)

@@ -1,6 +1,6 @@
--- What is true of every hash is true of the roots, where it is true of the leaves: of what is folded (`folded-every`), of what is held after
--- leaves more (`grown-every`), and of all leaves (`subtrees-every`), which are leaves more to none (`subtrees-grown`). So roots are as long
--- as nodes: `length-folded`, `whole-grown`, `whole-subtrees`.
+-- What is true of every hash is true of the roots, where it is true of the leaves: of what is folded (`folded-every`), of what is held
+-- after leaves more (`grown-every`), and of all leaves (`subtrees-every`), which are leaves more to none (`subtrees-grown`). So roots are
+-- as long as nodes: `length-folded`, `whole-grown`, `whole-subtrees`.
 use Prim.Native.Nat.{ℕ, zero, suc, _-_}
 use mathlib.Core.List.{List, [], _∷_, _++_}
 use mathlib.Core.Path.{_≡_, sym}
@@ -52,7 +52,8 @@ module _ (P : Node → Type 0) (hashed : (bytes : List ℕ) → P (sha256 bytes)
       let stay = length roots - k in
       let last = drop stay roots ++ (leaf ∷ []) in
       append-every (take stay roots) (folded last ∷ []) (take-every stay roots h)
-      (one-every (folded last) (folded-every last (append-every (drop stay roots) (leaf ∷ []) (drop-every stay roots h) (one-every leaf e))))
+      (one-every (folded last) (folded-every last (append-every (drop stay roots) (leaf ∷ []) (drop-every stay roots h)
+      (one-every leaf e))))
 
   pushed-every : (n : ℕ) (roots : List Node) (leaf : Node) → Every P roots → P leaf → Every P (pushed n roots leaf)
   unfolding pushed

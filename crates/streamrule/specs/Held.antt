@@ -1,6 +1,6 @@
--- The roots that a stream of chunks holds: SPEC, "Tree over a stream". `subtrees` of the leaves so far are the roots of their full subtrees,
--- one for each one in the binary number of leaves, the largest first. `grown` is what further leaves make of any roots; `folded` is the node
--- above them all.
+-- The roots that a stream of chunks holds: SPEC, "Tree over a stream". `subtrees` of the leaves so far are the roots of their full
+-- subtrees, one for each one in the binary number of leaves, the largest first. `grown` is what further leaves make of any roots; `folded`
+-- is the node above them all.
 use Prim.Native.Nat.{ℕ, zero, suc, _-_, _/_, _%_, _^_}
 use mathlib.Core.Bool.{cond}
 use mathlib.Core.List.{List, [], _∷_, _++_}

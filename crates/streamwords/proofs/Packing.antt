@@ -1,29 +1,31 @@
--- A stream and its words: as the code unpacks and packs them (`unpacked`, `packed`), and that words which were packed hold that stream again
--- (`packed-holds`).
-use Prim.Native.Nat.{ℕ, _+_, _-_, _*_, _≤_}
+-- A stream and its words: as the code unpacks and packs them (`unpacked`, `packed`), and that words which were packed hold that stream
+-- again (`packed-holds`).
+use Prim.Native.Nat.{ℕ, _+_, _*_, _≤_}
 use mathlib.Core.List.{List, [], _∷_, _++_, append-assoc, append-nil, map}
 use mathlib.Core.Path.{_≡_, refl, sym, ap, ap₂, _∙_}
 use native.Mathlib.Omega.{arith}
-use lib.ListN.{length, take, drop, getD, set, length-append, length-take, length-drop, length-set, take-append-drop}
+use lib.ListN.{length, take, drop, getD, set, length-append, length-set}
 use lib.Seq.{take-at, drop-at, drop-drop}
 use Rattle.slices.specs.AtFront.{atFront}
 use Rattle.slices.specs.Below.{Bytes}
 use Rattle.slices.specs.Parts.{part, putPart}
-use Rattle.slices.proofs.AtFront.{atFront-room, length-atFront}
-use Rattle.slices.proofs.Parts.{length-part, part-front, front-put, length-put, drop-put}
+use Rattle.slices.proofs.AtFront.{atFront-room}
+use Rattle.slices.proofs.Parts.{length-part, front-put, length-put, drop-put}
 use Rattle.bigendian.specs.BigEndian.{word64}
 use Rattle.bigendian.specs.Words.{fromWords, toWords, withWords}
-use Rattle.bigendian.proofs.Words.{length-fromWords, fromWords-bytes, length-toWords, toWords-word64, fromWords-toWords-all, withWords-all}
+use Rattle.bigendian.proofs.Words.{length-fromWords, length-toWords, toWords-word64, fromWords-toWords-all, withWords-all}
 use Rattle.treerule.specs.Root.{chunkBytes}
 use Rattle.stream.specs.declared.Stream.{Stream}
 use Rattle.stream.specs.State.{rootRoom, Shaped}
 use Rattle.stream.proofs.Adding.{same-stream}
-use Rattle.streamwords.specs.Words.{chunksWord, furtherWord, rootsFrom, rootWords, bytesFrom, byteWords, streamWords, streamIn, wordsOf}
+use Rattle.streamwords.specs.Words.{chunksWord, furtherWord, rootsFrom, rootWords}
+use Rattle.streamwords.specs.Words.{bytesFrom, byteWords, streamWords, streamIn, wordsOf}
 
 -- ---- unpacked
 
 -- words put as bytes over as many zeros
-bytes-of : (at k : ℕ) (ws room : List ℕ) {bytes : List ℕ} → at + k ≤ length ws → length room ≡ k * 8 → bytes ≡ withWords 8 (part ws at k) room →
+bytes-of : (at k : ℕ) (ws room : List ℕ) {bytes : List ℕ} → at + k ≤ length ws → length room ≡ k * 8 →
+    bytes ≡ withWords 8 (part ws at k) room →
     bytes ≡ fromWords 8 (part ws at k)
 bytes-of at k ws room within long e =
     e ∙ withWords-all 8 (part ws at k) room (omega arith) (long ∙ ap (λ (n : ℕ). n * 8) (sym (length-part at k ws within)))
@@ -55,7 +57,8 @@ behind-set n (x ∷ []) c f h = absurd (omega arith)
 behind-set n (x ∷ y ∷ xs) c f h = sym (drop-drop n rootsFrom (c ∷ f ∷ xs)) ∙ drop-drop n rootsFrom (x ∷ y ∷ xs)
 
 -- the words that bytes make, as many as the part has that they are put in
-words-of : (at k : ℕ) (b bs : List ℕ) {new : List ℕ} → at + k ≤ length b → Bytes bs → new ≡ map word64 (toWords (length (part b at k)) 8 bs) →
+words-of : (at k : ℕ) (b bs : List ℕ) {new : List ℕ} → at + k ≤ length b → Bytes bs →
+    new ≡ map word64 (toWords (length (part b at k)) 8 bs) →
     new ≡ toWords k 8 bs
 words-of at k b bs within small e =
     e ∙ ap (λ (n : ℕ). map word64 (toWords n 8 bs)) (length-part at k b within) ∙ toWords-word64 k 8 bs small (omega arith)
@@ -68,7 +71,8 @@ module _ (b : List ℕ) (s : Stream) (enough : streamWords ≤ length b) where
   set-long : length set-two ≡ length b
   set-long = simp length-set refl
 
-  module _ {new : List ℕ} (small : Bytes (s .roots)) (came : new ≡ map word64 (toWords (length (part set-two rootsFrom rootWords)) 8 (s .roots))) where
+  module _ {new : List ℕ} (small : Bytes (s .roots)) (came : new ≡ map word64 (toWords (length (part set-two rootsFrom rootWords)) 8
+      (s .roots))) where
     abbrev with-roots : List ℕ
     with-roots = putPart rootsFrom rootWords new set-two
 
@@ -80,15 +84,18 @@ module _ (b : List ℕ) (s : Stream) (enough : streamWords ≤ length b) where
 
     pub with-long : length with-roots ≡ length b
     with-long =
-        length-put rootsFrom rootWords set-two new (new-long ∙ sym (length-part rootsFrom rootWords set-two (omega (arith, set-long)))) ∙ set-long
+        length-put rootsFrom rootWords set-two new (new-long ∙ sym (length-part rootsFrom rootWords set-two (omega
+        (arith, set-long)))) ∙ set-long
 
     front : take bytesFrom with-roots ≡ (s .chunks ∷ s .further ∷ []) ++ new
     front =
         ap (λ (n : ℕ). take (rootsFrom + n) with-roots) (sym new-long)
-        ∙ front-put rootsFrom rootWords set-two new (s .chunks ∷ s .further ∷ []) new [] (two-set b (s .chunks) (s .further) (omega arith)) refl
+        ∙ front-put rootsFrom rootWords set-two new (s .chunks ∷ s .further ∷ []) new [] (two-set b (s .chunks) (s .further)
+        (omega arith)) refl
         (sym (append-nil new))
 
-    pub packed : {last : List ℕ} → Bytes (s .bytes) → last ≡ map word64 (toWords (length (part with-roots bytesFrom byteWords)) 8 (s .bytes)) →
+    pub packed : {last : List ℕ} → Bytes (s .bytes) →
+        last ≡ map word64 (toWords (length (part with-roots bytesFrom byteWords)) 8 (s .bytes)) →
         putPart bytesFrom byteWords last with-roots ≡ atFront (wordsOf s) b
     unfolding wordsOf
     packed {last} smallB cameB =

@@ -16,7 +16,8 @@ abbrev μ-loop : tie.MeasureT-loop
 loop-again : tie.Need-loop-again Inv-loop μ-loop
 loop-again c =
     let l = c .before .before .before .before .loop in
-    read-more _ _ _ (l .d) (l .at) (l .i) (c .before .before .end-of .result) (c .get .result) (omega arith) (c .before .before .end-of .ensures)
+    read-more _ _ _ (l .d) (l .at) (l .i) (c .before .before .end-of .result) (c .get .result) (omega arith)
+    (c .before .before .end-of .ensures)
     (c .get .ensures) (l .inv)
 
 returns : tie.Need-returns Inv-loop μ-loop

@@ -1,4 +1,5 @@
--- `streamwords::add` meets its contract: too few words are refused, then the stream decides, and what it is then is packed. Assumes nothing.
+-- `streamwords::add` meets its contract: too few words are refused, then the stream decides, and what it is then is packed. Assumes
+-- nothing.
 use mathlib.Core.Path.{refl}
 use borrow.Author.Needs.{needs}
 use borrow.Author.Tests.{lt-ltb}
@@ -24,8 +25,11 @@ returns-2 : tie.Need-returns-2
 returns-2 c =
     let a = c .before in
     let u = a .before in
-    let e = u .before .before in
-    (add-refused _ (e .if1 .left) _ (u .unpack .ensures) (a .add .ensures .0) (refuses (a .add .result .answer) (c .match .keys2)), bytes (e .before))
+    let e = u .before .before in (
+      add-refused _ (e .if1 .left) _ (u .unpack .ensures) (a .add .ensures .0) (refuses (a .add .result .answer) (c .match .keys2)),
+      bytes
+          (e .before),
+    )
 
 returns-3 : tie.Need-returns-3
 returns-3 c =

@@ -1,6 +1,6 @@
 -- `streamwords::pack` meets its contract: two words, the roots' words and the bytes' words, one behind another. Assumes nothing.
 use Prim.Native.Nat.{ℕ}
-use mathlib.Core.Path.{_≡_, ap, _∙_}
+use mathlib.Core.Path.{ap, _∙_}
 use native.Mathlib.Omega.{arith}
 use mir.Syntax.{w8 as u8}
 use mir.Val.{Fits}
@@ -39,6 +39,7 @@ pub pack-spec : {M : Type 1} → statement M
 pack-spec =
     tie.close
     (tie.spec
-    (λ c. search needs) (λ c. simp length-set (omega arith)) (λ c. search needs) (λ c. search needs) (λ c. simp length-set (omega arith)) (λ c. search needs)
+    (λ c. search needs) (λ c. simp length-set (omega arith)) (λ c. search needs) (λ c. search needs) (λ c. simp length-set (omega arith))
+    (λ c. search needs)
     (λ c κs. search needs) (λ c. search needs) (λ c. search needs) room (λ c. search needs) (λ c κs. search needs)
     (λ c. ap length (returns c) ∙ length-atFront (wordsOf _) _) returns)

@@ -26,8 +26,11 @@ is-sound c = sym (c .before .is-sound .ensures) ∙ not-false _ (c .if1 .left)
 
 returns-2 : tie.Need-returns-2
 unfolding addTests first
-returns-2 c =
-    (refused (rw (is-sound (c .before .before), sym (c .before .too-long .ensures) ∙ c .if2 .taken)) tt refl, shape (c .before .before .before))
+returns-2 c = (
+  refused (rw (is-sound (c .before .before), sym (c .before .too-long .ensures) ∙ c .if2 .taken)) tt refl,
+  shape
+      (c .before .before .before),
+)
 
 -- the piece keeps the limit
 room : (c : tie.Else2) →

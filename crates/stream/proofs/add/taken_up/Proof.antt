@@ -30,7 +30,8 @@ returns c =
     let f = g .before .before .before in
     let s = f .before .before .before .before in
     taken-law (s .args .chunks) (s .args .roots) (s .args .begun .now) (s .args .rest .now) _ _ (s .pre .0) (s .pre .1) (roots-long g)
-    (f .grow .ensures) (g .grow2 .ensures) (h .held .ensures) (r .rest-at .ensures) (c .before .before .padded .ensures) (c .padded2 .ensures)
+    (f .grow .ensures) (g .grow2 .ensures) (h .held .ensures) (r .rest-at .ensures) (c .before .before .padded .ensures)
+    (c .padded2 .ensures)
 
 pub taken-up-spec : {M : Type 1} → statement M
 taken-up-spec =

@@ -1,19 +1,18 @@
 -- `stream::add::with_piece` meets its contract: the begun chunk is filled or not, and the two laws of Filling say what comes out.
 -- Assumes nothing.
-use Prim.Native.Nat.{_+_, _-_, _<_, _≤_}
-use mathlib.Core.Bool.{true}
-use mathlib.Core.List.{List, _++_}
+use Prim.Native.Nat.{_-_, _<_}
+use mathlib.Core.List.{_++_}
 use mathlib.Core.Path.{_≡_, sym}
 use native.Mathlib.Omega.{arith}
-use lib.ListN.{length, take, drop}
+use lib.ListN.{take, drop}
 use lib.Seq.{length-take-le}
 use borrow.Author.Needs.{needs}
 use Rattle.slices.specs.Padded.{padded}
 use Rattle.treerule.specs.Root.{chunkBytes}
 use Rattle.stream.specs.declared.Stream.{Stream}
-use Rattle.stream.specs.State.{sound, Shaped}
+use Rattle.stream.specs.State.{Shaped}
 use Rattle.stream.specs.Steps.{waiting}
-use Rattle.stream.proofs.Soundness.{Counts, sound-has}
+use Rattle.stream.proofs.Soundness.{sound-has}
 use Rattle.stream.proofs.Filling.{filled, fills-short, begun-within, begun-chunked, runs-within, fills-long}
 use Rattle.stream.proofs.add.with_piece.Statement.{statement}
 use Rattle.stream.proofs.add.with_piece.Tie as tie
@@ -34,7 +33,8 @@ short c = sound-has (stream c) (start c .pre .0) .counts .short
 is-filled : (c : tie.After-put-front) →
     take (stream (c .before .before) .further) (stream (c .before .before) .bytes)
     ++ (c .put-front .last .0
-    ++ drop (chunkBytes - stream (c .before .before) .further) (drop (stream (c .before .before) .further) (stream (c .before .before) .bytes)))
+    ++ drop (chunkBytes - stream (c .before .before) .further) (drop (stream (c .before .before) .further) (stream
+    (c .before .before) .bytes)))
     ≡ padded chunkBytes (waiting (stream (c .before .before)) (start (c .before .before) .args .piece .now))
 is-filled c =
     let b = c .before .before in

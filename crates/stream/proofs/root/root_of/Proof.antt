@@ -35,13 +35,15 @@ within c =
 returns : tie.Need-returns
 returns c =
     let h = c .before .before .before .before .before in
-    root-further (start h .args .stream) (h .held .ensures) (bytes-long h) (has h .counts .short) (c .before .before .before .before .if1 .taken)
+    root-further (start h .args .stream) (h .held .ensures) (bytes-long h) (has h .counts .short)
+    (c .before .before .before .before .if1 .taken)
     (c .before .leaf .ensures) (c .fold .ensures)
 
 returns-2 : tie.Need-returns-2
 returns-2 c =
     let h = c .before .before .before in
-    root-nothing (start h .args .stream) (h .held .ensures) (omega (arith, c .before .before .if1 .left)) (omega (arith, c .before .if2 .taken))
+    root-nothing (start h .args .stream) (h .held .ensures) (omega (arith, c .before .before .if1 .left)) (omega
+    (arith, c .before .if2 .taken))
     (c .nothing .ensures)
 
 at-within : (c : tie.Else2) → (c .before .before .held .result - 1) * nodeBytes + nodeBytes ≤ rootRoom

@@ -1,12 +1,6 @@
--- `stream::roots::fold` meets its contract. The invariant: the roots that are left and the node behind them fold to the same. The measure is
--- how many are left. Assumes nothing.
-use Prim.Native.Nat.{_-_, _*_, _≤_}
-use mathlib.Core.List.{List, [], _∷_, _++_}
-use mathlib.Core.Path.{_≡_, refl, sym, _∙_}
+-- `stream::roots::fold` meets its contract. The invariant: the roots that are left and the node behind them fold to the same. The measure
+-- is how many are left. Assumes nothing.
 use native.Mathlib.Omega.{arith}
-use lib.ListN.{length, drop}
-use borrow.Author.Needs.{needs}
-use Rattle.treerule.specs.Root.{nodeBytes}
 use Rattle.stream.proofs.Folding.{Folded, folded-start, folded-more, folded-end}
 use Rattle.stream.proofs.roots.fold.Statement.{statement}
 use Rattle.stream.proofs.roots.fold.Tie as tie
@@ -21,7 +15,8 @@ loop-again : tie.Need-loop-again Inv-loop μ-loop
 loop-again c =
     let l = c .before .before .before .before .loop in
     let s = c .before .before .before .before .before .before in
-    folded-more (s .args .roots .now) (s .args .from) (s .args .to) _ (l .node) (l .i) (c .before .before .before .loop-test .taken) (l .inv)
+    folded-more (s .args .roots .now) (s .args .from) (s .args .to) _ (l .node) (l .i) (c .before .before .before .loop-test .taken)
+    (l .inv)
     (c .before .front-node .ensures) (c .parent .ensures)
 
 returns : tie.Need-returns Inv-loop μ-loop
@@ -31,5 +26,6 @@ pub fold-spec : {M : Type 1} → statement M
 fold-spec =
     tie.close
     (tie.spec
-    Inv-loop μ-loop (λ c. folded-start _ _ _ _ (c .before .pre .0)) (λ c. omega arith) (λ c. omega arith) (λ c. omega arith) (λ c. omega arith)
+    Inv-loop μ-loop (λ c. folded-start _ _ _ _ (c .before .pre .0)) (λ c. omega arith) (λ c. omega arith) (λ c. omega arith)
+    (λ c. omega arith)
     (λ c. omega arith) (λ c κs. omega arith) (λ c κs. tt) (λ c. omega arith) loop-again returns)

@@ -1,9 +1,7 @@
 -- `stream::roots::grow` meets its contract. The invariant: i chunks are taken. The measure is how many are left. Assumes nothing.
 use Prim.Native.Nat.{_-_}
-use mathlib.Core.Path.{_≡_, _∙_}
+use mathlib.Core.Path.{_∙_}
 use native.Mathlib.Omega.{arith}
-use lib.ListN.{length}
-use borrow.Author.Needs.{needs}
 use Rattle.stream.proofs.Pushing.{Grown, grown-start, grown-more, grown-end}
 use Rattle.stream.proofs.roots.grow.Statement.{statement}
 use Rattle.stream.proofs.roots.grow.Tie as tie

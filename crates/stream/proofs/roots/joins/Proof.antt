@@ -1,16 +1,16 @@
 -- `stream::roots::joins` meets its contract: the zeros at the end of the next number are the ones at the end of this. Assumes nothing.
-use Prim.Native.Nat.{_+_}
 use native.Mathlib.Numerals.{add-one}
 use native.Mathlib.Omega.{arith}
 use mathlib.Core.Path.{ap, _∙_}
 use borrow.Author.Needs.{needs}
 use lib.Count.{trailingZeros, trailing-le}
 use Rattle.streamrule.proofs.Ones.{ones-zeros}
+use Rattle.stream.proofs.Limits.{count-fits}
 use Rattle.stream.proofs.roots.joins.Statement.{statement}
 use Rattle.stream.proofs.roots.joins.Tie as tie
 
 cast-result : tie.Need-cast-result
-cast-result c = record { fits = omega (arith, trailing-le 64 (c .args .chunks + 1)) }
+cast-result c = count-fits _ (trailing-le 64 _)
 
 returns : tie.Need-returns
 returns c =

@@ -1,6 +1,5 @@
 -- `stream::state::counts` meets its contract: rule by rule. Assumes nothing.
 use mathlib.Core.Path.{sym}
-use native.Mathlib.Omega.{arith}
 use borrow.Author.Tests.{lt-leb, le-ltb}
 use Rattle.slices.proofs.Tests.{fails-at}
 use Rattle.treerule.specs.Root.{chunkBytes}

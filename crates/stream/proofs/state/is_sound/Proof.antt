@@ -1,5 +1,5 @@
 -- `stream::state::is_sound` meets its contract: rule by rule. Assumes nothing.
-use Prim.Native.Nat.{_*_, _<_, _≤_}
+use Prim.Native.Nat.{_*_, _≤_}
 use mathlib.Core.Bool.{true}
 use mathlib.Core.Path.{_≡_, refl, sym, ap, _∙_}
 use native.Mathlib.Omega.{arith}
@@ -40,7 +40,8 @@ roots-asked : (c : tie.After-bytes-zero) →
     (c .before .before .before .before .before .before .before .args .stream .roots))
 roots-asked c =
     let h = c .before .before .before in
-    zeros-asked rootRoom (h .held .result * nodeBytes) _ (roots-long h) (ap (λ n. n * nodeBytes) (h .held .ensures)) (c .bytes-zero .ensures)
+    zeros-asked rootRoom (h .held .result * nodeBytes) _ (roots-long h) (ap (λ n. n * nodeBytes) (h .held .ensures))
+    (c .bytes-zero .ensures)
 
 returns-2 : tie.Need-returns-2
 returns-2 c =
