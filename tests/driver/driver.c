@@ -18,6 +18,8 @@
  *   24 start     edition, buffer                         25 put       buffer, lent name, lent digest
  *   30 leaf      lent bytes, output                      31 parent    lent left node, lent right node, output
  *   32 level     buffer
+ *   40 stream begin   run                                41 stream add   run, lent piece
+ *   42 stream root    run, output
  *
  * A run is the place of its first word and its count of words. Lent is a count n and n bytes; but more than FAR bytes do not follow: the
  * call is lent n zeros then. Output is a count of at most OUTPUT bytes and a number f: counted from the beginning of the guard before it,
@@ -119,7 +121,9 @@ static size_t shift(void) {
   return by;
 }
 
-/* More zeros than there is memory for. They take up none unless a call reads them, and cannot be written, but for so many at the front. */
+/* More zeros than there is memory for. They take up none unless a call reads them, and cannot be written, but for so many at the front.
+ * Where there are too few, a power of two of others is taken, so that all that were ever taken are fewer than four times the most that was
+ * asked for; those before are not given back, for they may be lent to the same call. */
 struct zeros {
   uint8_t *at;
   size_t have;
@@ -128,10 +132,11 @@ struct zeros {
 static uint8_t *zeros(struct zeros *these, size_t n, size_t front) {
   enum { READ = 1, WRITE = 2, PRIVATE = 2, ANONYMOUS = 32, NORESERVE = 0x4000 };
   if (n > these->have) {
-    these->at = mmap(NULL, n, READ, PRIVATE | ANONYMOUS | NORESERVE, -1, 0);
+    if (n >> 63) give_up("no room for so many zeros");
+    for (these->have = FAR; these->have < n;) these->have *= 2;
+    these->at = mmap(NULL, these->have, READ, PRIVATE | ANONYMOUS | NORESERVE, -1, 0);
     if (these->at == (void *)-1) give_up("no room for so many zeros");
     if (front && mprotect(these->at, front, READ | WRITE) != 0) give_up("the zeros at the front cannot be written");
-    these->have = n;
   }
   return these->at;
 }
@@ -309,6 +314,34 @@ static uint64_t part_of_tree(uint8_t which) {
   }
 }
 
+static uint64_t call_on_stream(uint8_t which) {
+  size_t run_n, n;
+  uint64_t *run = lend_run(&run_n);
+  switch (which) {
+    case 40: return dw_stream_begin(run, run_n);
+    case 41: {
+      const uint8_t *piece = lend(&n);
+      return dw_stream_add(run, run_n, piece, n);
+    }
+    case 42: {
+      uint8_t *out = lend_output(&n);
+      return dw_stream_root(run, run_n, out, n);
+    }
+    default: give_up("no such command");
+  }
+}
+
+/* Each ten of commands has a function of its own. */
+static uint64_t call_made(uint8_t which) {
+  switch (which / 10) {
+    case 1: return call_on_table(which);
+    case 2: return call_at_once(which);
+    case 3: return part_of_tree(which);
+    case 4: return call_on_stream(which);
+    default: give_up("no such command");
+  }
+}
+
 static void answer_words_changed(void) {
   uint64_t count = 0;
   for (size_t i = 0; i < words; i++) count += memory[i] != before[i];
@@ -325,7 +358,7 @@ static void call(uint8_t which) {
   lents = has_output = has_buffer = 0;
   shifts = number();
   told_edition = told_count = told_at = told_length = 0x5a5a5a5a5a5a5a5a;
-  answer_number(which < 20 ? call_on_table(which) : which < 30 ? call_at_once(which) : part_of_tree(which));
+  answer_number(call_made(which));
   if (which == 16) {
     answer_number(told_edition);
     answer_number(told_count);

@@ -1,8 +1,9 @@
 """Calls of the C interface through the driver: how they are sent, the answers that are expected and those that come, and what differs, in
 readable form. driver.c says what is sent; tests/driver/start runs a Python file that imports this one.
 
-A test that needs no table hands its cases to `compare`. One that has a table makes batches of its own and takes the Answers apart. A call
-that is new in the header is a case in driver.c, and a line in CALLS; SIGNATURES has the parts of a tree too, which are in no header.
+A test hands its cases to `compare`; where calls are lent words, a case begins with their Memory. tests/ledger, whose cases are long, makes
+batches of its own and takes the Answers apart. A call that is new in the header is a case in driver.c, and a line in CALLS; SIGNATURES has
+the parts of a tree too, which are in no header.
 """
 import select
 import struct
@@ -38,6 +39,9 @@ CALLS = {
     "lookup": (23, ("list", "name")),
     "list_start": (24, ("edition", "buffer")),
     "list_put": (25, ("buffer", "name", "digest")),
+    "stream_begin": (40, ("words",)),
+    "stream_add": (41, ("words", "piece")),
+    "stream_root": (42, ("words", "out")),
 }
 PARTS = dict(leaf=(30, ("bytes", "out")), parent=(31, ("left", "right", "out")), level=(32, ("buffer",)))
 SIGNATURES = CALLS | PARTS
@@ -98,7 +102,7 @@ class Call(namedtuple("Call", "name args shifts")):
     def reply(self, answer, values=(0, 0), wrote=b"", changes=NOTHING, left=b""):
         """What the driver must answer: the number, the values where the call tells some, the output with these bytes at its front and its
         guards, the buffer as it is left and its guards, no change of what was lent to be read, and the changes of words, none if the call
-        is on no table."""
+        is lent none."""
         parts = [number(answer)]
         if self.name in TELLING:
             parts.append(two_numbers(*values))
@@ -134,6 +138,35 @@ class Call(namedtuple("Call", "name args shifts")):
 
 def buffer_size(buffer):
     return len(buffer) if isinstance(buffer, bytes) else buffer.n
+
+
+# ---- the words that calls are lent; what sets them has no answer
+
+
+class Memory(namedtuple("Memory", "words")):
+    """All of it: GUARD_WORDS words, those that are lent, and GUARD_WORDS more."""
+
+    __slots__ = ()
+
+    def packed(self):
+        return b"\x00" + number(len(self.words)) + struct.pack(f"<{len(self.words)}Q", *self.words)
+
+
+class Word(namedtuple("Word", "place value")):
+    """One of them, by its place among those that are lent."""
+
+    __slots__ = ()
+
+    def packed(self):
+        return b"\x01" + two_numbers(GUARD_WORDS + self.place, self.value)
+
+
+def changes(before, after):
+    """Those of them that become others, as the driver tells them."""
+    if before == after:
+        return NOTHING
+    told = [two_numbers(at, new) for at, (old, new) in enumerate(zip(before, after), GUARD_WORDS) if old != new]
+    return number(len(told)) + b"".join(told)
 
 
 # ---- the driver
@@ -283,7 +316,7 @@ def short_words(changed):
     return (shown or "none") + (f" .. ({len(changed)} words)" if len(changed) > 30 else "")
 
 
-# ---- cases: pairs of a call on no table and the reply that is expected
+# ---- cases: pairs of what is sent, mostly a call, and the reply that is expected; the words that a call is lent are the memory set before
 
 
 def pack(case):

@@ -10,7 +10,7 @@ _Noreturn void _exit(int status);
 enum { STACK = 1 << 16, PAINT = 0xa5, BAYS = 64, WORDS = DW_TABLE_WORDS(BAYS), MAP = DW_LONGEST_MAP, LIST = 34832 };
 
 static _Alignas(16) uint8_t stack[STACK];
-static uint64_t table[WORDS], edition, count, sound;
+static uint64_t table[WORDS], stream[DW_STREAM_WORDS], edition, count, sound;
 static uint8_t map[MAP + 1], list[LIST], record[DW_LONGEST_RECORD], out[256];
 static size_t list_n, at, len, n;
 static uint64_t number;
@@ -55,9 +55,9 @@ static size_t taken(void (*prepare)(void), void (*use)(void))
 }
 
 /* The values of a use, which prepare sets up and the calls read. */
-static uint64_t u_edition, u_bits, u_bay;
+static uint64_t u_edition, u_bits, u_bay, u_chunks;
 static uint8_t u_closing;
-static size_t u_n, u_out, u_names;
+static size_t u_n, u_out, u_names, u_words, u_damage;
 
 static void fill(void)
 {
@@ -83,6 +83,14 @@ static void saved(void)
     sound |= dw_save(table, WORDS, BAYS - 1, record, sizeof record);
     empty_table();
 }
+/* Roots and bytes of zeros are sound as any others are; a last byte that is not zero is not. */
+static void make_stream(void)
+{
+    memset(stream, 0, sizeof stream);
+    stream[0] = u_chunks;
+    stream[1] = n;
+    stream[DW_STREAM_WORDS - 1] = u_damage;
+}
 static void nothing(void) {}
 
 static void no_call(void) {}
@@ -100,6 +108,9 @@ static void use_judge(void) { number = dw_judge(list, list_n, list + list_n - 3,
 static void use_lookup(void) { number = dw_lookup(list, list_n, list + list_n - 3, 3, &at, &len); }
 static void use_list_start(void) { number = dw_list_start(u_edition, list, u_out); }
 static void use_list_put(void) { number = dw_list_put(list, list_n + u_out, (const uint8_t *)"12x", 3, map, u_n); }
+static void use_stream_begin(void) { number = dw_stream_begin(stream, u_words); }
+static void use_stream_add(void) { number = dw_stream_add(stream, u_words, map, u_n); }
+static void use_stream_root(void) { number = dw_stream_root(stream, u_words, out, u_out); }
 
 /* A number of so many bytes, most significant first. */
 static uint8_t *put(uint8_t *to, int bytes, size_t value)
@@ -128,9 +139,11 @@ static void make_list(void)
     list_n = (size_t)(to - list);
 }
 
-enum { HASH, LAY_OUT, OPEN, ADD, CLOSE, SAVE, LOAD, ASK, DROP, TREE, JUDGE, LOOKUP, LIST_START, LIST_PUT, CALLS };
-static const char *const names[CALLS] = {"hash", "lay_out", "open", "add",   "close",  "save",       "load",
-                                         "ask",  "drop",    "tree", "judge", "lookup", "list_start", "list_put"};
+enum { HASH, LAY_OUT, OPEN, ADD, CLOSE, SAVE, LOAD, ASK, DROP, TREE, JUDGE, LOOKUP, LIST_START, LIST_PUT, STREAM_BEGIN, STREAM_ADD,
+       STREAM_ROOT, CALLS };
+static const char *const names[CALLS] = {"hash",       "lay_out",  "open",         "add",        "close",       "save",
+                                         "load",       "ask",      "drop",         "tree",       "judge",       "lookup",
+                                         "list_start", "list_put", "stream_begin", "stream_add", "stream_root"};
 static size_t most[CALLS];
 static uint64_t done[CALLS], refused[CALLS];
 
@@ -144,6 +157,28 @@ static void measure(int call, void (*prepare)(void), void (*use)(void))
         done[call]++;
     else
         refused[call]++;
+}
+
+/* Streams that a chunk is joined with no root and with all, up to the limit; few bytes and many after the chunks; each refusal. */
+static void stream_uses(void)
+{
+    static const uint64_t chunks[] = {0, 1, 2, 0x7fffffff, 0xffffffff, 0x100000000};
+    static const size_t bytes[] = {0, 1, 63, 64, 1000}, pieces[] = {0, 1, 24, 64, 1023, 1024, 1025, 4096};
+
+    for (u_words = DW_STREAM_WORDS - 1; u_words <= DW_STREAM_WORDS; u_words++)
+        for (u_damage = 0; u_damage < 2; u_damage++)
+            for (size_t i = 0; i < sizeof chunks / sizeof *chunks; i++)
+                for (size_t k = 0; k < sizeof bytes / sizeof *bytes; k++) {
+                    u_chunks = chunks[i];
+                    n = bytes[k];
+                    measure(STREAM_BEGIN, make_stream, use_stream_begin);
+                    for (size_t j = 0; j < sizeof pieces / sizeof *pieces; j++) {
+                        u_n = pieces[j];
+                        measure(STREAM_ADD, make_stream, use_stream_add);
+                    }
+                    for (u_out = 31; u_out <= 32; u_out++)
+                        measure(STREAM_ROOT, make_stream, use_stream_root);
+                }
 }
 
 int main(void)
@@ -189,6 +224,7 @@ int main(void)
     for (u_n = 0; u_n <= MAP + 1; u_n = u_n < 4 ? u_n + 1 : u_n < MAP ? u_n * 2 : u_n + 1)
         for (u_out = 31; u_out <= 32; u_out++)
             measure(TREE, nothing, use_tree);
+    stream_uses();
 
     for (int call = 0; call < CALLS; call++) {
         if (done[call] == 0 || (refused[call] == 0 && call != LAY_OUT)) {

@@ -123,7 +123,7 @@ begun-holds m e =
     (sym stream-none) (d .1)
 
 -- on words that hold a stream, the stream's own tests decide
-on-stream : (bytes ws piece : List ℕ) → Holds bytes ws → first (addTests ws piece) ≡ first (step.addTests (streamOf bytes) piece)
+pub on-stream : (bytes ws piece : List ℕ) → Holds bytes ws → first (addTests ws piece) ≡ first (step.addTests (streamOf bytes) piece)
 unfolding addTests
 on-stream bytes ws piece h =
     first-skip (6 when ltb (length ws) streamWords) (step.addTests (streamIn ws) piece) (le-ltb (length ws) streamWords (h .enough))

@@ -2,3 +2,4 @@
 pub mod Passing
 pub mod Streams
 pub mod CStreams
+pub mod Happen
