@@ -27,10 +27,10 @@
  *
  * Null: no pointer may be null, not even that of an empty buffer. Where the count is 0, pass the address of anything.
  *
- * Stack: dw_tree takes up to 36,784 bytes of it, dw_close 2,896, dw_hash 2,512, dw_add 2,432, dw_load 1,992, dw_open 1,288, dw_save 1,280,
- * dw_drop 1,240, dw_ask 1,128, dw_judge 424, dw_list_put 408, dw_lookup 408, dw_list_start 32 and dw_lay_out 32: measured on
- * x86-64 and on Arm, the larger of both. A thread with a small stack has to have as much to spare; two macros below have it in round
- * numbers.
+ * Stack: dw_tree takes up to 36,784 bytes of it, dw_stream_add 11,440, dw_stream_root 7,840, dw_stream_begin 4,224, dw_close 2,816,
+ * dw_hash 2,512, dw_add 2,352, dw_load 1,512, dw_save 1,280, dw_ask 1,144, dw_open 768, dw_judge 424, dw_list_put 408, dw_lookup 408,
+ * dw_drop 160, dw_list_start 32 and dw_lay_out 32: measured on x86-64 and on Arm, the larger of both. A thread with a small stack has to
+ * have as much to spare; three macros below have it in round numbers.
  *
  * Threads: nothing is kept between calls but what stands in a table, in a stream, or in a buffer with a list. Calls on different tables or
  * streams, and calls on none, may run at once, each with outputs of its own, and a buffer in which a list is written is such an output; on
@@ -126,8 +126,9 @@ enum dw_edition {
  * are, and a call that is lent so many would read past the end. */
 #define DW_LIST_BYTES(list) \
     ((size_t)((list)[12] & 255) << 24 | (size_t)((list)[13] & 255) << 16 | (size_t)((list)[14] & 255) << 8 | (size_t)((list)[15] & 255))
-/* bytes of stack that dw_tree takes at most, and that each other call does */
+/* bytes of stack that dw_tree takes at most, that each call on a stream does, and that each other call does */
 #define DW_TREE_STACK 37000
+#define DW_STREAM_STACK 12000
 #define DW_STACK 3000
 
 /* For a whole message at hand: the digest of n bytes, at most 2^40, and of the upper `bits` bits (0 to 7) of `closing`, whose other bits
