@@ -91,6 +91,33 @@ static void lists(int second_first)
     printf("\n");
 }
 
+/* A map in twenty pieces through a stream, in words of which the last is the caller's; the root may be asked for halfway. */
+static void streams(void)
+{
+    static uint64_t stream[DW_STREAM_WORDS + 1];
+    uint8_t root[DW_ROOT_BYTES] = {0}, more[DW_ROOT_BYTES] = {0};
+    int turn;
+    size_t k;
+    memset(stream, 0xee, sizeof stream);
+    expect("begin in 257 words", dw_stream_begin(stream, DW_STREAM_WORDS - 1), DW_SHORT_OUTPUT);
+    expect("add where no stream is", dw_stream_add(stream, DW_STREAM_WORDS, message, 1), DW_NOT_SOUND);
+    expect("begin", dw_stream_begin(stream, DW_STREAM_WORDS + 1), DW_DONE);
+    for (turn = 0; turn < 20; turn++) {
+        expect("stream add", dw_stream_add(stream, DW_STREAM_WORDS, message, MOST), DW_DONE);
+        expect("stream root", dw_stream_root(stream, DW_STREAM_WORDS, root, sizeof root), DW_DONE);
+    }
+    expect("stream root in 31 bytes", dw_stream_root(stream, DW_STREAM_WORDS, more, sizeof more - 1), DW_SHORT_OUTPUT);
+    expect("add to 257 words", dw_stream_add(stream, DW_STREAM_WORDS - 1, message, 1), DW_NOT_SOUND);
+    if (stream[0] != 5 || stream[1] != 880 || stream[DW_STREAM_WORDS] != UINT64_C(0xeeeeeeeeeeeeeeee) || more[0] != 0)
+        wrong = 1;
+    stream[0] = DW_LONGEST_STREAM / 1024 + 1;
+    expect("root past the limit", dw_stream_root(stream, DW_STREAM_WORDS, root, sizeof root), DW_NOT_SOUND);
+    printf("root ");
+    for (k = 0; k < sizeof root; k++)
+        printf("%02x", root[k]);
+    printf("\n");
+}
+
 int main(void)
 {
     const uint8_t *nothing = (const uint8_t *)"";
@@ -130,6 +157,7 @@ int main(void)
         printf("edition %" PRIu64 " %d\n", i, DW_DIGEST_BYTES(i));
     printf("table %d %d\n", DW_TABLE_WORDS(1), DW_TABLE_WORDS(64));
     printf("longest %d %d %d\n", DW_LONGEST_DIGEST, DW_LONGEST_RECORD, DW_LONGEST_LIST);
+    printf("stream %d %" PRIu64 "\n", DW_STREAM_WORDS, (uint64_t)DW_LONGEST_STREAM);
 
     memset(message, 'm', sizeof message);
     for (i = 1; i <= 6; i++)
@@ -153,5 +181,6 @@ int main(void)
     printf("\n");
     lists(0);
     lists(1);
+    streams();
     return wrong || sizeof(same_size) != 1;
 }

@@ -27,7 +27,7 @@ def camel(name):
 
 
 expected = [f"version {(root / 'VERSION').read_text().strip()}"]
-texts = {int(row[0]): row[1] for row in rows("## Calls and their numbers", "no. |")}
+texts = {int(row[0]): row[1] for row in rows("## Calls and their numbers", "no. |") if row[0]}
 assert sorted(texts) == list(range(18))
 expected += [f"answer {n} {texts.get(n, 'no such answer')}" for n in range(20)] + ["answer 2^64-1 no such answer"]
 answers = (root / "crates/answers/src/lib.rt").read_text(encoding="utf-8")
@@ -41,10 +41,24 @@ expected += ["table {} {}".format(*(n.replace(",", "") for n in re.search(r"([\d
 record = next(row[2] for row in rows("## Limits", "what |") if row[0].startswith("bytes of a record"))
 whole = next(row[2] for row in rows("## Limits", "what |") if row[0].startswith("bytes of a list")).split()[0].replace(",", "")
 expected += [f"longest {max(sizes.values())} " + max(re.findall(r"\d+(?= \()", record), key=int) + f" {whole}"]
+limits = {row[0]: row for row in rows("## Limits", "what |")}
+power = re.match(r"2\^(\d+)", limits["bytes of a map that a stream takes"][2]).group(1)
+expected += [f"stream {limits['words of a stream'][1]} {2 ** int(power)}"]
 expected += ["digest " + hashlib.sha512(b"m" * 300).hexdigest()]
 entries = struct.pack(">II", 96, 9) + hashlib.sha256(b"abc").digest() + struct.pack(">II", 105, 8) + hashlib.sha256(b"").digest()
 listed = struct.pack(">HHIII", 2, 2, 16, 96, 113) + entries + b"fleet.cfg" + b"yard.map"
 expected += [f"list {listed.hex()}"] * 2
+
+
+def tree(chunks):
+    """RFC 6962, section 2.1: split at the largest power of two below the number of chunks."""
+    if len(chunks) == 1:
+        return hashlib.sha256(b"\0" + chunks[0]).digest()
+    k = 1 << (len(chunks) - 1).bit_length() - 1
+    return hashlib.sha256(b"\1" + tree(chunks[:k]) + tree(chunks[k:])).digest()
+
+
+expected += ["root " + tree([b"m" * n for n in (1024, 1024, 1024, 1024, 1024, 880)]).hex()]
 
 said = Path(sys.argv[1]).read_text().splitlines()
 faults = [f"not said: {line}" for line in expected if line not in said] + [f"said: {line}" for line in said if line not in expected]
