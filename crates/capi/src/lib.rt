@@ -6,8 +6,7 @@ ghost use Rattle.answers.specs.Judged.{first};
 ghost use Rattle.calls.specs.Calls.{Call, told, Lends, Outcome, Asks};
 ghost use Rattle.lists.specs.Calls.{spot, Finds, judgeTests};
 ghost use Rattle.sha2.specs.Hash.{Hashes};
-ghost use Rattle.slices.specs.Below.{Bytes};
-ghost use Rattle.streamwords.specs.Calls.{Begins, Adds, Roots};
+ghost use Rattle.streamwords.specs.Calls.{Begins, LendsPiece, Adds, Roots};
 ghost use Rattle.tree.specs.Tree.{Trees};
 ghost use Rattle.writer.specs.Writing;
 use lists::Found;
@@ -119,7 +118,7 @@ pub extern "C" fn dw_stream_begin(stream: &mut [u64]) -> u64
 #[no_mangle]
 pub extern "C" fn dw_stream_add(stream: &mut [u64], piece: &[u8]) -> u64
     ensures { λ r. ⌜ Adds (now (stream .entry)) (now (piece .entry)) r (now (stream .exit)) ⌝ }
-    ensures { λ _. ⌜ Bytes (now (piece .entry)) ⌝ }
+    ensures { λ _. ⌜ LendsPiece (now (stream .entry)) (now (piece .entry)) ⌝ }
 {
     answers::number(streamwords::add(stream, piece))
 }

@@ -1,13 +1,19 @@
--- Writing at the front of an output: laws of `atFront`, and of the loop that writes it.
+-- Writing at the front of an output: laws of `atFront`, and of the loop that writes it. What is behind stays (`drop-front`), so that of two
+-- writings of one length the later counts (`front-again`).
 use Prim.Native.Nat.{ℕ, zero, suc, _+_, _-_, _≤_, _<_}
+use mathlib.Core.Bool.{Bool, true, false}
 use mathlib.Core.List.{List, _∷_, _++_, append-nil}
 use mathlib.Core.Path.{_≡_, refl, sym, ap, ap₂, _∙_}
 use native.Mathlib.Nat.{not-suc-le-zero, le-of-suc-le-suc, sub-zero, zero-sub, suc-sub-suc}
 use native.Mathlib.Numerals.{add-one}
 use native.Mathlib.Omega.{arith}
+use borrow.Author.Tests.{leb-true, leb-false}
+use lib.Dec.{leb}
 use lib.ListN.{length, take, drop, set, getD, length-append, length-take, length-drop, length-set, replicate, drop-of-length-le}
-use lib.Seq.{take-all, take-length, drop-length, take-suc, drop-cons, set-at, append-snoc, length-take-le}
+use lib.Seq.{take-all, take-length, drop-length, drop-at, take-suc, drop-cons, set-at, append-snoc, length-take-le}
 use Rattle.slices.specs.AtFront.{atFront}
+use Rattle.slices.specs.Below.{Below}
+use Rattle.slices.proofs.Below.{below-append, below-take, below-drop}
 
 -- i bytes are written
 pub record Written (bytes out₀ out : List ℕ) (i : ℕ) : Type 0 where
@@ -67,6 +73,30 @@ atFront-all new out e =
     atFront-room new out (omega arith)
     ∙ ap (λ (l : List ℕ). new ++ l) (drop-of-length-le out {i = length new} (omega arith))
     ∙ append-nil new
+
+-- what lies behind so many stays
+pub drop-front : (new out : List ℕ) (k : ℕ) → length new ≡ k → drop k (atFront new out) ≡ drop k out
+drop-front new out k e = go (leb k (length out)) refl
+  where
+    go : (b : Bool) → leb k (length out) ≡ b → drop k (atFront new out) ≡ drop k out
+    go true h =
+        let fits = leb-true k (length out) h in
+        ap (drop k) (atFront-room new out (omega arith)) ∙ drop-at new (drop (length new) out) k e ∙ ap (λ (n : ℕ). drop n out) e
+    go false h =
+        let short = leb-false k (length out) h in
+        drop-of-length-le (atFront new out) {i = k} (omega (arith, length-atFront new out))
+        ∙ sym (drop-of-length-le out {i = k} (omega arith))
+
+-- and what is written over is gone
+pub front-again : (new old out : List ℕ) → length old ≡ length new → atFront new (atFront old out) ≡ atFront new out
+unfolding atFront
+front-again new old out e =
+    ap₂ (λ (n : ℕ) (l : List ℕ). take n new ++ l) (length-atFront old out) (drop-front old out (length new) e)
+
+pub below-front : {m : ℕ} (new out : List ℕ) → Below m new → Below m out → Below m (atFront new out)
+unfolding atFront
+below-front new out h g =
+    below-append (take (length out) new) (drop (length new) out) (below-take (length out) new h) (below-drop (length new) out g)
 
 -- ---- copies of one element, as a buffer is before anything is written
 

@@ -13,8 +13,8 @@ use Rattle.slices.specs.Below.{Bytes}
 use Rattle.slices.specs.AtFront.{atFront}
 use Rattle.slices.specs.Padded.{padded}
 use Rattle.slices.specs.Tests.{allZero}
-use Rattle.slices.proofs.Below.{below-append, below-take, below-replicate}
-use Rattle.slices.proofs.AtFront.{length-atFront, drop-copies}
+use Rattle.slices.proofs.Below.{below-replicate}
+use Rattle.slices.proofs.AtFront.{length-atFront, below-front, drop-copies}
 use Rattle.slices.proofs.Tests.{allZero-zeros, zeros-allZero}
 
 pub length-padded : (room : ℕ) (bs : List ℕ) → length (padded room bs) ≡ room
@@ -81,6 +81,4 @@ padded-clear room n bs e h = ap allZero (drop-padded room bs n h e) ∙ zeros-al
 -- ---- bytes stay bytes
 
 pub padded-bytes : (room : ℕ) (bs : List ℕ) → Bytes bs → Bytes (padded room bs)
-padded-bytes room bs h =
-    rw (padded-zeros room bs)
-    (below-append (take room bs) (replicate (room - length bs) 0) (below-take room bs h) (below-replicate (room - length bs) (lit< tt)))
+padded-bytes room bs h = below-front bs (replicate room 0) h (below-replicate room (lit< tt))

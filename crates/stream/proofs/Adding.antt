@@ -1,14 +1,14 @@
 -- Bytes that follow the finished chunks of a stream, in two runs of which the first is whole chunks: `taken-law`. The chunks of both are
--- the chunks of one after the other: `finished-append`.
-use Prim.Native.Nat.{ℕ, _+_, _-_, _*_, _/_, _≤_}
-use mathlib.Core.List.{List, _++_, map, map-append, flatten}
+-- the chunks of one after the other: `finished-append`. What roots and bytes behind them make is `built`.
+use Prim.Native.Nat.{ℕ, _+_, _-_, _*_, _/_, _<_, _≤_}
+use mathlib.Core.List.{List, [], _++_, map, map-append, flatten}
 use mathlib.Core.Path.{_≡_, sym, ap, ap₂, _∙_}
 use native.Mathlib.Omega.{arith}
 use lib.Count.{ones}
 use lib.ListN.{length, take, drop, length-append, length-map}
 use Rattle.slices.specs.Blocks.{rest}
 use Rattle.slices.specs.Padded.{padded}
-use Rattle.slices.proofs.Blocks.{length-rest, rest-append}
+use Rattle.slices.proofs.Blocks.{length-rest, rest-small, rest-append}
 use Rattle.slices.proofs.Parts.{partTo, part-all}
 use Rattle.fips.specs.Bits.{pieces}
 use Rattle.treerule.specs.Root.{chunkBytes, nodeBytes, Node, leaf}
@@ -17,9 +17,8 @@ use Rattle.tree.proofs.Held.{flat-held}
 use Rattle.streamrule.specs.Held.{grown}
 use Rattle.streamrule.proofs.Subtrees.{grown-append}
 use Rattle.stream.specs.declared.Stream.{Stream}
-use Rattle.stream.specs.State.{mostChunks, rootRoom, stateOf}
+use Rattle.stream.specs.State.{mostChunks, rootRoom, stateOf, rootsIn}
 use Rattle.stream.specs.Steps.{finished}
-use Rattle.stream.specs.code.Buffer.{rootsIn}
 use Rattle.stream.proofs.Limits.{few-roots}
 
 -- two streams with the same fields
@@ -88,6 +87,20 @@ taken-law n roots xs ys one two {count} {at} {kept} {behind} whole most room isO
 
 abbrev pub built : ℕ → List Node → List ℕ → Stream
 built n roots bytes = stateOf (n + length bytes / chunkBytes) (grown n roots (finished bytes)) (rest chunkBytes bytes)
+
+-- fewer bytes than a chunk has finish none
+finished-none : (bytes : List ℕ) → length bytes < chunkBytes → finished bytes ≡ []
+unfolding finished pieces
+finished-none bytes short =
+    let none : length bytes / chunkBytes ≡ 0 = omega arith in
+    ap (λ (n : ℕ). map leaf (pieces chunkBytes n bytes)) none
+
+pub built-short : (n : ℕ) (roots : List Node) (bytes : List ℕ) → length bytes < chunkBytes → built n roots bytes ≡ stateOf n roots bytes
+unfolding grown
+built-short n roots bytes short =
+    let count : n + length bytes / chunkBytes ≡ n = omega arith in
+    ap₂ (λ (m : ℕ) (l : List Node). stateOf m (grown n roots l) (rest chunkBytes bytes)) count (finished-none bytes short)
+    ∙ ap (stateOf n roots) (rest-small chunkBytes bytes short)
 
 -- whole chunks may be taken first
 pub built-append : (n : ℕ) (roots : List Node) (xs ys : List ℕ) → Chunked xs →

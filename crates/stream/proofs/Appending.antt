@@ -1,9 +1,9 @@
 -- Pieces one after the other. A sound stream stays sound (`added-fits`, `added-sound`); a piece and then another are the two in one
--- (`added-append`); what bytes lead to is what adding them from the beginning leaves (`stream-added`); and its root is the root of the
--- chunk tree (`stream-top`).
+-- (`added-append`), and no bytes change nothing (`added-none`); what bytes lead to is what adding them from the beginning leaves
+-- (`stream-added`); and its root is the root of the chunk tree (`stream-top`).
 use Prim.Native.Nat.{ℕ, _+_, _*_, _/_, _<_, _≤_}
 use mathlib.Core.Bool.{true}
-use mathlib.Core.List.{List, [], _++_, append-assoc, map, map-append}
+use mathlib.Core.List.{List, [], _++_, append-assoc, append-nil, map, map-append}
 use mathlib.Core.Path.{_≡_, refl, sym, ap, ap₂, _∙_}
 use native.Mathlib.Nat.{zero-add}
 use native.Mathlib.Omega.{arith}
@@ -20,11 +20,11 @@ use Rattle.streamrule.specs.Held.{subtreesIn, subtrees, folded, grown}
 use Rattle.streamrule.proofs.Subtrees.{held-ones, folded-top, length-grown}
 use Rattle.streamrule.proofs.Wholes.{length-folded, whole-none, whole-append, whole-grown, whole-subtrees, subtrees-grown}
 use Rattle.stream.specs.declared.Stream.{Stream}
-use Rattle.stream.specs.State.{stateOf, begun, held, further, sound, Shaped}
+use Rattle.stream.specs.State.{stateOf, begun, held, bytesOf, sound, Shaped}
 use Rattle.stream.specs.Steps.{finished, streamOf, streamLimit, taken, waiting, added, streamRoot}
 use Rattle.stream.proofs.Soundness.{length-further}
-use Rattle.stream.proofs.Adding.{length-finished, Chunked, built, built-append}
-use Rattle.stream.proofs.Forms.{Fits, form-shaped, form-held, form-further, form-sound, sound-fits}
+use Rattle.stream.proofs.Adding.{length-finished, Chunked, built, built-short, built-append}
+use Rattle.stream.proofs.Forms.{Fits, form-shaped, form-held, form-further, form-sound, sound-fits, one-form}
 
 -- ---- bytes: their whole chunks, and the rest
 
@@ -80,7 +80,7 @@ unfolding added
 added-built s piece = refl
 
 module _ (s : Stream) (shape : Shaped s) (ok : sound s ≡ true) where
-  abbrev fits : Fits (s .chunks) (held s) (further s)
+  abbrev fits : Fits (s .chunks) (held s) (bytesOf s)
   fits = sound-fits s shape ok
 
   pub added-fits : (piece : List ℕ) → taken s + length piece ≤ streamLimit →
@@ -94,12 +94,20 @@ module _ (s : Stream) (shape : Shaped s) (ok : sound s ≡ true) where
             ∙ ap (λ (n : ℕ). ones (s .chunks + n)) (length-finished w);
         whole = whole-grown (s .chunks) (held s) (finished w) (fits .whole) (leaves-finished w);
         short = rest-short w;
-        limit = omega (arith, length-rest chunkBytes w, length-append (further s) piece, length-further s shape ok);
+        limit = omega (arith, length-rest chunkBytes w, length-append (bytesOf s) piece, length-further s shape ok);
       }
 
   pub added-shaped : (piece : List ℕ) → Shaped (added s piece)
   unfolding added
   added-shaped piece = form-shaped _ _ _
+
+  -- no bytes change nothing
+  pub added-none : added s [] ≡ s
+  added-none =
+      added-built s []
+      ∙ ap (built (s .chunks) (held s)) (append-nil (bytesOf s))
+      ∙ built-short (s .chunks) (held s) (bytesOf s) (fits .short)
+      ∙ sym (one-form s shape ok)
 
   module _ (p : List ℕ) (limit : taken s + length p ≤ streamLimit) where
     abbrev w : List ℕ
@@ -117,7 +125,7 @@ module _ (s : Stream) (shape : Shaped s) (ok : sound s ≡ true) where
 
     pub added-taken : taken (added s p) ≡ taken s + length p
     unfolding added stateOf
-    added-taken = omega (arith, length-rest chunkBytes w, length-append (further s) p, length-further s shape ok)
+    added-taken = omega (arith, length-rest chunkBytes w, length-append (bytesOf s) p, length-further s shape ok)
 
     -- once p has come, q is waiting behind what p left
     then-waiting : (q : List ℕ) → waiting (added s p) q ≡ rest chunkBytes w ++ q
@@ -137,7 +145,7 @@ module _ (s : Stream) (shape : Shaped s) (ok : sound s ≡ true) where
     both q =
         sym (append-assoc (whole-of w) (rest chunkBytes w) q)
         ∙ ap (λ (l : List ℕ). l ++ q) (front-rest w)
-        ∙ append-assoc (further s) p q
+        ∙ append-assoc (bytesOf s) p q
 
     pub added-append : (q : List ℕ) → added (added s p) q ≡ added s (p ++ q)
     added-append q =
@@ -207,8 +215,8 @@ module _ (bytes : List ℕ) (limit : length bytes ≤ streamLimit) where
 pub root-length : (s : Stream) → Shaped s → sound s ≡ true → length (streamRoot s) ≡ nodeBytes
 unfolding streamRoot
 root-length s shape ok =
-    let last = map leaf (chunks (further s)) in
-    length-folded (held s ++ last) (whole-append (held s) last (sound-fits s shape ok .whole) (leaves-whole (chunks (further s))))
+    let last = map leaf (chunks (bytesOf s)) in
+    length-folded (held s ++ last) (whole-append (held s) last (sound-fits s shape ok .whole) (leaves-whole (chunks (bytesOf s))))
 
 module _ (bytes : List ℕ) (limit : length bytes ≤ streamLimit) where
   stream-fits : Fits (length bytes / chunkBytes) (subtrees (finished bytes)) (rest chunkBytes bytes)

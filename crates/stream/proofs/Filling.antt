@@ -2,9 +2,8 @@
 -- statements: `fills-short`, where the chunk is not filled, and `fills-long`, where it is or none was begun.
 use Prim.Native.Nat.{ℕ, _+_, _-_, _/_, _≤_, _<_}
 use mathlib.Core.Bool.{true}
-use mathlib.Core.List.{List, [], _++_, append-assoc, map, flatten}
-use mathlib.Core.Path.{_≡_, sym, ap, ap₂, _∙_}
-use native.Mathlib.Nat.{add-zero}
+use mathlib.Core.List.{List, _++_, append-assoc}
+use mathlib.Core.Path.{_≡_, refl, sym, ap, ap₂, _∙_}
 use native.Mathlib.Omega.{arith}
 use lib.Count.{ones}
 use lib.ListN.{length, take, drop, replicate, length-append, take-append-drop}
@@ -12,30 +11,21 @@ use lib.Seq.{length-take-le, take-append-add}
 use Rattle.slices.specs.AtFront.{atFront}
 use Rattle.slices.specs.Blocks.{rest}
 use Rattle.slices.specs.Padded.{padded}
-use Rattle.slices.proofs.Blocks.{rest-small, lack, lack-whole, lack-short}
+use Rattle.slices.proofs.Blocks.{lack, lack-whole, lack-short}
 use Rattle.slices.proofs.Padded.{length-padded, front-behind, front-padded, zeros-behind}
 use Rattle.slices.proofs.Parts.{partTo, part-all}
-use Rattle.fips.specs.Bits.{pieces}
-use Rattle.treerule.specs.Root.{chunkBytes, Node, leaf}
+use Rattle.treerule.specs.Root.{chunkBytes}
 use Rattle.streamrule.specs.Held.{grown}
 use Rattle.stream.specs.declared.Stream.{Stream}
-use Rattle.stream.specs.State.{mostChunks, rootRoom, stateOf, held, further, sound, Shaped}
+use Rattle.stream.specs.State.{mostChunks, rootRoom, stateOf, held, bytesOf, sound, Shaped, rootsIn}
 use Rattle.stream.specs.Steps.{finished, streamLimit, taken, waiting, added}
-use Rattle.stream.specs.code.Buffer.{rootsIn}
 use Rattle.stream.proofs.Buffers.{held-form}
 use Rattle.stream.proofs.Soundness.{sound-has, length-further}
-use Rattle.stream.proofs.Adding.{same-stream, Chunked}
-
--- fewer bytes than a chunk has finish none
-finished-none : (bytes : List ℕ) → length bytes < chunkBytes → finished bytes ≡ []
-unfolding finished pieces
-finished-none bytes short =
-    let none : length bytes / chunkBytes ≡ 0 = omega arith in
-    ap (λ (n : ℕ). map leaf (pieces chunkBytes n bytes)) none
+use Rattle.stream.proofs.Adding.{same-stream, Chunked, built-short}
 
 module _ (s : Stream) (shape : Shaped s) (ok : sound s ≡ true) (piece : List ℕ) where
   length-waiting : length (waiting s piece) ≡ s .further + length piece
-  length-waiting = length-append (further s) piece ∙ ap (λ (n : ℕ). n + length piece) (length-further s shape ok)
+  length-waiting = length-append (bytesOf s) piece ∙ ap (λ (n : ℕ). n + length piece) (length-further s shape ok)
 
   -- the piece behind the bytes, as much as there is room for
   pub filled : (mid : List ℕ) → mid ≡ atFront piece (take (chunkBytes - s .further) (drop (s .further) (s .bytes))) →
@@ -49,20 +39,17 @@ module _ (s : Stream) (shape : Shaped s) (ok : sound s ≡ true) (piece : List �
 
   pub fills-short : {bytes : List ℕ} → bytes ≡ padded chunkBytes (waiting s piece) → length piece < lack chunkBytes (s .further) →
       record { chunks = s .chunks; further = s .further + length piece; roots = s .roots; bytes = bytes } ≡ added s piece
-  unfolding added stateOf grown
-  fills-short {bytes} isBytes short =
+  unfolding added stateOf
+  fills-short isBytes short =
       let has = sound-has s ok in
       let few : length (waiting s piece) < chunkBytes =
       rw length-waiting (lack-short chunkBytes (s .further) (length piece) (has .counts .short) short) in
-      let none : length (waiting s piece) / chunkBytes ≡ 0 = omega arith in
-      let same : rest chunkBytes (waiting s piece) ≡ waiting s piece = rest-small chunkBytes (waiting s piece) few in
       let room = has .few in
-      same-stream _ _
-      (sym (ap (λ (n : ℕ). s .chunks + n) none ∙ add-zero (s .chunks)))
-      (sym (ap length same ∙ length-waiting))
-      (held-form rootRoom (ones (s .chunks)) (s .roots) (shape .roots) (omega arith) (has .rootsEnd)
-      ∙ ap (λ (l : List Node). padded rootRoom (flatten (grown (s .chunks) (held s) l))) (sym (finished-none (waiting s piece) few)))
-      (isBytes ∙ ap (padded chunkBytes) (sym same))
+      same-stream _ (stateOf (s .chunks) (held s) (waiting s piece)) refl
+      (sym length-waiting)
+      (held-form rootRoom (ones (s .chunks)) (s .roots) (shape .roots) (omega arith) (has .rootsEnd))
+      isBytes
+      ∙ sym (built-short (s .chunks) (held s) (waiting s piece) few)
 
   -- the two runs are what waits: the begun chunk, filled, and the rest of the piece
   module _ {bytes : List ℕ} (isBytes : bytes ≡ padded chunkBytes (waiting s piece)) (long : lack chunkBytes
@@ -81,14 +68,14 @@ module _ (s : Stream) (shape : Shaped s) (ok : sound s ≡ true) (piece : List �
     pub runs : begun ++ partTo lead piece ≡ waiting s piece
     runs =
         let whole = lack-whole chunkBytes (s .further) (sound-has s ok .counts .short) in
-        let front : begun ≡ further s ++ take lead piece =
+        let front : begun ≡ bytesOf s ++ take lead piece =
         ap (take (s .further + lead)) isBytes
         ∙ front-padded chunkBytes (waiting s piece) (s .further + lead) (whole .2) (rw length-waiting (omega arith))
         ∙ ap (λ (n : ℕ). take (n + lead) (waiting s piece)) (sym (length-further s shape ok))
-        ∙ take-append-add (further s) piece lead in
+        ∙ take-append-add (bytesOf s) piece lead in
         ap₂ (λ (a b : List ℕ). a ++ b) front (part-all lead piece)
-        ∙ append-assoc (further s) (take lead piece) (drop lead piece)
-        ∙ ap (λ (l : List ℕ). further s ++ l) (take-append-drop lead piece)
+        ∙ append-assoc (bytesOf s) (take lead piece) (drop lead piece)
+        ∙ ap (λ (l : List ℕ). bytesOf s ++ l) (take-append-drop lead piece)
 
     pub begun-chunked : Chunked begun
     begun-chunked =

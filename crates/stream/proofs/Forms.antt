@@ -14,7 +14,7 @@ use Rattle.treerule.proofs.Levels.{Whole}
 use Rattle.treerule.proofs.Pieces.{length-pieces}
 use Rattle.tree.proofs.Held.{held-whole, length-flat}
 use Rattle.stream.specs.declared.Stream.{Stream}
-use Rattle.stream.specs.State.{rootRoom, stateOf, countRules, held, further, sound, Shaped}
+use Rattle.stream.specs.State.{rootRoom, stateOf, countRules, held, bytesOf, sound, Shaped}
 use Rattle.stream.specs.Steps.{streamLimit}
 use Rattle.stream.proofs.Limits.{few-roots}
 use Rattle.stream.proofs.Buffers.{held-padded, held-form}
@@ -44,7 +44,7 @@ module _ (chunks : ℕ) (roots : List Node) (bytes : List ℕ) where
     unfolding stateOf
     form-held = held-padded rootRoom (ones chunks) roots (fits .many) (omega (arith, few)) (fits .whole)
 
-    pub form-further : further (stateOf chunks roots bytes) ≡ bytes
+    pub form-further : bytesOf (stateOf chunks roots bytes) ≡ bytes
     unfolding stateOf
     form-further = take-padded chunkBytes bytes (length bytes) (omega (arith, fits .short)) refl
 
@@ -64,7 +64,7 @@ module _ (s : Stream) (shape : Shaped s) (ok : sound s ≡ true) where
   abbrev has : Sound s
   has = sound-has s ok
 
-  pub sound-fits : Fits (s .chunks) (held s) (further s)
+  pub sound-fits : Fits (s .chunks) (held s) (bytesOf s)
   sound-fits =
       let counts = has .counts in
       let room = has .few in
@@ -76,21 +76,21 @@ module _ (s : Stream) (shape : Shaped s) (ok : sound s ≡ true) where
         limit = omega (arith, counts .limit);
       }
 
-  pub one-form : s ≡ stateOf (s .chunks) (held s) (further s)
+  pub one-form : s ≡ stateOf (s .chunks) (held s) (bytesOf s)
   unfolding stateOf
   one-form =
       let counts = has .counts in
       let room = has .few in
-      same-stream s (stateOf (s .chunks) (held s) (further s)) refl
+      same-stream s (stateOf (s .chunks) (held s) (bytesOf s)) refl
       (sym (length-further s shape ok))
       (held-form rootRoom (ones (s .chunks)) (s .roots) (shape .roots) (omega arith) (has .rootsEnd))
       (zeros-padded chunkBytes (s .further) (s .bytes) (shape .bytes) (omega (arith, counts .short)) (has .bytesEnd))
 
 -- two sound streams that hold the same are the same
 pub same-form : (a b : Stream) → Shaped a → Shaped b → sound a ≡ true → sound b ≡ true →
-    a .chunks ≡ b .chunks → held a ≡ held b → further a ≡ further b → a ≡ b
+    a .chunks ≡ b .chunks → held a ≡ held b → bytesOf a ≡ bytesOf b → a ≡ b
 same-form a b shapeA shapeB okA okB c h f =
     one-form a shapeA okA
-    ∙ ap (λ (n : ℕ). stateOf n (held a) (further a)) c
+    ∙ ap (λ (n : ℕ). stateOf n (held a) (bytesOf a)) c
     ∙ ap₂ (λ (r : List Node) (l : List ℕ). stateOf (b .chunks) r l) h f
     ∙ sym (one-form b shapeB okB)

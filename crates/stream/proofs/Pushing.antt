@@ -19,9 +19,8 @@ use Rattle.tree.proofs.Held.{held-put}
 use Rattle.streamrule.specs.Held.{folded, onesAtEnd, joined, pushed, grown}
 use Rattle.streamrule.proofs.Ones.{ends-le, ones-next}
 use Rattle.streamrule.proofs.Subtrees.{grown-append}
-use Rattle.stream.specs.State.{mostChunks, rootRoom}
+use Rattle.stream.specs.State.{mostChunks, rootRoom, rootsIn}
 use Rattle.stream.specs.Steps.{finished}
-use Rattle.stream.specs.code.Buffer.{rootsIn}
 use Rattle.stream.proofs.Limits.{few-roots}
 use Rattle.stream.proofs.Folding.{above}
 

@@ -17,7 +17,7 @@ use Rattle.treerule.proofs.Root.{chunks-one, chunks-none}
 use Rattle.tree.specs.code.Held.{held as nodes}
 use Rattle.streamrule.specs.Held.{folded}
 use Rattle.stream.specs.declared.Stream.{Stream}
-use Rattle.stream.specs.State.{held, further}
+use Rattle.stream.specs.State.{held, bytesOf}
 use Rattle.stream.specs.Steps.{streamRoot}
 use Rattle.stream.proofs.Folding.{above}
 
@@ -36,18 +36,18 @@ module _ (s : Stream) {count : ℕ} (isCount : count ≡ ones (s .chunks)) where
       node ≡ leaf (take chunkBytes (take (s .further) (s .bytes))) → r ≡ above (s .roots) 0 count node → r ≡ streamRoot s
   unfolding streamRoot
   root-further {node} long short some isNode isR =
-      let size : length (further s) ≡ s .further = length-take-le (s .further) (s .bytes) (omega arith) in
-      let one : chunks (further s) ≡ further s ∷ [] = chunks-one (further s) (omega arith) (omega arith) in
+      let size : length (bytesOf s) ≡ s .further = length-take-le (s .further) (s .bytes) (omega arith) in
+      let one : chunks (bytesOf s) ≡ bytesOf s ∷ [] = chunks-one (bytesOf s) (omega arith) (omega arith) in
       isR
       ∙ above-all (s .roots) count node
       ∙ ap₂ (λ (l : List Node) (n : Node). folded (l ++ (n ∷ []))) are-held
-      (isNode ∙ ap leaf (take-all chunkBytes (further s) (omega arith)))
+      (isNode ∙ ap leaf (take-all chunkBytes (bytesOf s) (omega arith)))
       ∙ ap (λ (l : List (List ℕ)). folded (held s ++ map leaf l)) (sym one)
 
   no-further : s .further ≡ 0 → folded (held s) ≡ streamRoot s
   unfolding streamRoot
   no-further none =
-      let empty : chunks (further s) ≡ [] = chunks-none (further s) (ap (λ (n : ℕ). length (take n (s .bytes))) none) in
+      let empty : chunks (bytesOf s) ≡ [] = chunks-none (bytesOf s) (ap (λ (n : ℕ). length (take n (s .bytes))) none) in
       sym (ap (λ (l : List (List ℕ)). folded (held s ++ map leaf l)) empty ∙ ap folded (append-nil (held s)))
 
   pub root-nothing : {r : Node} → s .further ≡ 0 → count ≡ 0 → r ≡ sha256 [] → r ≡ streamRoot s

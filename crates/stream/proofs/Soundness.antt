@@ -15,7 +15,7 @@ use Rattle.slices.proofs.Parts.{part-all}
 use Rattle.slices.proofs.Tests.{holds-at, at-holds, fails-at, holds-on, holds-last}
 use Rattle.treerule.specs.Root.{chunkBytes, nodeBytes}
 use Rattle.stream.specs.declared.Stream.{Stream}
-use Rattle.stream.specs.State.{mostChunks, countRules, further, rules, sound, Shaped}
+use Rattle.stream.specs.State.{mostChunks, countRules, bytesOf, rules, sound, Shaped}
 use Rattle.stream.specs.Steps.{streamLimit}
 use Rattle.stream.proofs.Limits.{few-roots}
 
@@ -101,7 +101,7 @@ module _ (s : Stream) where
       first-three at (suc (suc zero)) = at 2
       first-three at (suc (suc (suc i))) = refl
 
-  pub length-further : Shaped s → sound s ≡ true → length (further s) ≡ s .further
+  pub length-further : Shaped s → sound s ≡ true → length (bytesOf s) ≡ s .further
   length-further shape ok = length-take-le (s .further) (s .bytes) (omega (arith, shape .bytes, sound-has ok .counts .short))
 
   -- ---- as it is asked: the counts, then the zeros

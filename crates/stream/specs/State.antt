@@ -32,14 +32,18 @@ begun = stateOf 0 [] []
 abbrev pub countRules : ℕ → ℕ → List Bool
 countRules chunks further = leb chunks mostChunks ∷ ltb further chunkBytes ∷ (ltb chunks mostChunks || eqb further 0) ∷ []
 
-module _ (s : Stream) where
-  -- the roots held: one for each one in the number of finished chunks
-  abbrev pub held : List Node
-  held = pieces nodeBytes (ones (s .chunks)) (s .roots)
+-- the roots that so many chunks have in a buffer: one for each one in their number
+abbrev pub rootsIn : ℕ → List ℕ → List Node
+rootsIn chunks buffer = pieces nodeBytes (ones chunks) buffer
 
-  -- the bytes after them
-  abbrev pub further : List ℕ
-  further = take (s .further) (s .bytes)
+module _ (s : Stream) where
+  -- the roots held
+  abbrev pub held : List Node
+  held = rootsIn (s .chunks) (s .roots)
+
+  -- the bytes after the finished chunks
+  abbrev pub bytesOf : List ℕ
+  bytesOf = take (s .further) (s .bytes)
 
   -- the counts, and zeros behind the roots and behind the bytes; what the roots are is not judged
   abbrev pub rules : List Bool

@@ -11,7 +11,7 @@ use Rattle.fips.specs.Bits.{pieces}
 use Rattle.treerule.specs.Root.{chunkBytes, nodeBytes, Node, leaf, chunks}
 use Rattle.streamrule.specs.Held.{subtrees, folded, grown}
 use Rattle.stream.specs.declared.Stream.{Stream}
-use Rattle.stream.specs.State.{mostChunks, stateOf, held, further, sound}
+use Rattle.stream.specs.State.{mostChunks, stateOf, held, bytesOf, sound}
 
 -- the leaves of the finished chunks of bytes
 unfoldable pub finished : List ℕ → List Node
@@ -37,7 +37,7 @@ module _ (s : Stream) where
 
   -- the bytes after the finished chunks, once the piece has come
   abbrev pub waiting : List ℕ → List ℕ
-  waiting piece = further s ++ piece
+  waiting piece = bytesOf s ++ piece
 
   -- each finished chunk of them is a leaf more, and the rest stays
   unfoldable pub added : List ℕ → Stream
@@ -52,4 +52,4 @@ module _ (s : Stream) where
 
   -- the roots held, and behind them the leaf of the bytes after the chunks where there are any
   unfoldable pub streamRoot : Node
-  streamRoot = folded (held s ++ map leaf (chunks (further s)))
+  streamRoot = folded (held s ++ map leaf (chunks (bytesOf s)))

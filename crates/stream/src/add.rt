@@ -11,9 +11,8 @@ ghost use Rattle.slices.specs.Blocks.{rest as restOf};
 ghost use Rattle.slices.specs.Padded.{padded as paddedTo};
 ghost use Rattle.treerule.specs.Root.{chunkBytes};
 ghost use Rattle.streamrule.specs.Held.{grown};
-ghost use Rattle.stream.specs.State.{mostChunks, stateOf, sound, Shaped};
+ghost use Rattle.stream.specs.State.{mostChunks, stateOf, sound, Shaped, rootsIn};
 ghost use Rattle.stream.specs.Steps.{finished, streamLimit, taken, addTests, added};
-ghost use Rattle.stream.specs.code.Buffer.{rootsIn};
 use crate::CHUNK;
 use crate::NODE;
 use crate::ROOTS;
@@ -53,17 +52,17 @@ fn padded(bytes: &[u8]) -> [u8; CHUNK]
 }
 
 // The stream once two runs of bytes have followed the finished chunks, of which the first is whole chunks: none, or the one that was begun.
-fn taken_up(chunks: u64, roots: [u8; ROOTS], begun: &[u8], rest: &[u8]) -> Stream
-    requires { ⌜ (length (now begun) / chunkBytes * chunkBytes ≡ length (now begun))
-        × (chunks + length (now begun) / chunkBytes + length (now rest) / chunkBytes ≤ mostChunks) ⌝ }
+fn taken_up(chunks: u64, roots: [u8; ROOTS], front: &[u8], rest: &[u8]) -> Stream
+    requires { ⌜ (length (now front) / chunkBytes * chunkBytes ≡ length (now front))
+        × (chunks + length (now front) / chunkBytes + length (now rest) / chunkBytes ≤ mostChunks) ⌝ }
     ensures { λ r.
-        ⌜ r ≡ stateOf (chunks + length (now (begun .entry) ++ now (rest .entry)) / chunkBytes)
-        (grown chunks (rootsIn chunks roots) (finished (now (begun .entry) ++ now (rest .entry))))
-        (restOf chunkBytes (now (begun .entry) ++ now (rest .entry))) ⌝ }
+        ⌜ r ≡ stateOf (chunks + length (now (front .entry) ++ now (rest .entry)) / chunkBytes)
+        (grown chunks (rootsIn chunks roots) (finished (now (front .entry) ++ now (rest .entry))))
+        (restOf chunkBytes (now (front .entry) ++ now (rest .entry))) ⌝ }
 {
     let mut roots = roots;
-    grow(&mut roots, chunks, begun);
-    let filled = chunks + (begun.len() / CHUNK) as u64;
+    grow(&mut roots, chunks, front);
+    let filled = chunks + (front.len() / CHUNK) as u64;
     grow(&mut roots, filled, rest);
     let chunks = filled + (rest.len() / CHUNK) as u64;
     let end = held(chunks) * NODE;

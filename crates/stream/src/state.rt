@@ -24,7 +24,7 @@ pub fn begin() -> Stream
     }
 }
 
-// The two counts: fewer bytes than a chunk has, and none behind 2^32 chunks.
+// The two counts: at most 2^32 chunks, fewer bytes than a chunk has, and none behind 2^32 chunks.
 fn counts(chunks: u64, further: u64) -> bool
     ensures { λ r. ⌜ r ≡ holds (countRules chunks further) ⌝ }
 {

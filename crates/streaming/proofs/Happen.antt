@@ -1,6 +1,6 @@
 -- The theorems about streams are not about nothing: for every list of pieces, of at most 2^42 bytes in all, there are calls that begin a
 -- stream and take them one after the other, by value (`stream-happens`) and in any lent words that are enough (`c-stream-happens`).
-use Prim.Native.Nat.{ℕ, _+_, _≤_}
+use Prim.Native.Nat.{ℕ, _+_, _^_, _≤_}
 use mathlib.Core.List.{List, [], _∷_, _++_, flatten, append-assoc, append-nil}
 use mathlib.Core.Path.{refl, sym, ap, subst, _∙_}
 use native.Mathlib.Omega.{arith}
@@ -11,7 +11,8 @@ use Rattle.answers.specs.declared.Answer.{Answer}
 use Rattle.answers.specs.Judged.{first}
 use Rattle.answers.proofs.Outcome.{done}
 use Rattle.slices.specs.AtFront.{atFront}
-use Rattle.slices.specs.Below.{Bytes}
+use Rattle.slices.specs.Below.{Below, Bytes}
+use Rattle.slices.proofs.AtFront.{below-front}
 use Rattle.stream.specs.declared.Stream.{Stream}
 use Rattle.stream.specs.State.{begun, sound, Shaped}
 use Rattle.stream.specs.Steps.{streamOf, streamLimit, added}
@@ -20,8 +21,9 @@ use Rattle.streamwords.specs.Words.{streamWords, streamIn, wordsOf}
 use Rattle.streamwords.specs.Calls.{beginTests}
 use Rattle.streaming.specs.ByValue.{Streamed, begun-by, added-by}
 use Rattle.streaming.specs.InC.{Lent, begun-in, added-in}
-use Rattle.streaming.proofs.Passing.{AddPasses, add-passes}
+use Rattle.streaming.proofs.Passing.{AddPasses, add-passes, same-passes}
 use Rattle.streaming.proofs.Streams.{leads}
+use Rattle.streaming.proofs.Packed.{begun-words, added-words}
 use Rattle.streaming.proofs.CStreams.{holds, on-stream}
 
 -- a slice somewhere
@@ -92,32 +94,42 @@ c-begin-happens ws enough =
     })
     refl
 
-c-add-happens : (bytes ws piece : List ℕ) → Bytes piece → length bytes + length piece ≤ streamLimit → Lent bytes ws →
-    Lent (bytes ++ piece) (atFront (wordsOf (added (streamIn ws) piece)) ws)
-unfolding slice
-c-add-happens bytes ws piece small limit t =
-    added-in t
-    (record {
-      κs = ([], ([], tt));
-      args = (slice ws, (slice piece, tt));
-      result = 0;
-      last = (atFront (wordsOf (added (streamIn ws) piece)) ws, (tt, tt));
-      learnt =
-          (done (on-stream bytes ws piece (holds t) ∙ add-passes (streamOf bytes) piece (next-passes bytes piece limit)) refl, small);
-    })
-    refl refl
+-- words of 64 bits in which bytes have been taken
+abbrev Words64 : List ℕ → Type 0
+Words64 bytes = (ws : List ℕ) × Below (2 ^ 64) ws × Lent bytes ws
 
-c-adds-happen : (bytes ws : List ℕ) (pieces : List (List ℕ)) → AllBytes pieces → length bytes + length (flatten pieces) ≤ streamLimit →
-    Lent bytes ws → (left : List ℕ) × Lent (bytes ++ flatten pieces) left
+c-add-happens : (bytes piece : List ℕ) → Bytes piece → length bytes + length piece ≤ streamLimit → Words64 bytes → Words64 (bytes ++ piece)
+unfolding slice
+c-add-happens bytes piece small limit (ws, words, t) =
+    let h = holds t in
+    let passes = next-passes bytes piece limit in
+    let there = same-passes (h .is) refl passes in
+    let left = atFront (wordsOf (added (streamIn ws) piece)) ws in (
+      left,
+      below-front (wordsOf (added (streamIn ws) piece)) ws (added-words ws (h .enough) piece (there .ok) (there .within) small) words,
+      added-in t
+          (record {
+            κs = ([], ([], tt));
+            args = (slice ws, (slice piece, tt));
+            result = 0;
+            last = (left, (tt, tt));
+            learnt = (done (on-stream bytes ws piece h ∙ add-passes (streamOf bytes) piece passes) refl, (words, small));
+          })
+          refl refl,
+    )
+
+c-adds-happen : (bytes : List ℕ) (pieces : List (List ℕ)) → AllBytes pieces → length bytes + length (flatten pieces) ≤ streamLimit →
+    Words64 bytes → (left : List ℕ) × Lent (bytes ++ flatten pieces) left
 unfolding flatten
-c-adds-happen bytes ws [] small limit t = (ws, subst (λ (l : List ℕ). Lent l ws) (sym (append-nil bytes)) t)
-c-adds-happen bytes ws (piece ∷ pieces) small limit t =
+c-adds-happen bytes [] small limit (ws, words, t) = (ws, subst (λ (l : List ℕ). Lent l ws) (sym (append-nil bytes)) t)
+c-adds-happen bytes (piece ∷ pieces) small limit from =
     let apart = length-append piece (flatten pieces) in
-    let next = c-add-happens bytes ws piece (small .0) (omega arith) t in
-    let rest = c-adds-happen (bytes ++ piece) _ pieces (small .1) (omega (arith, length-append bytes piece)) next in
+    let next = c-add-happens bytes piece (small .0) (omega arith) from in
+    let rest = c-adds-happen (bytes ++ piece) pieces (small .1) (omega (arith, length-append bytes piece)) next in
     (rest .0, subst (λ (l : List ℕ). Lent l (rest .0)) (append-assoc bytes piece (flatten pieces)) (rest .1))
 
 pub c-stream-happens : (pieces : List (List ℕ)) (ws : List ℕ) → AllBytes pieces → length (flatten pieces) ≤ streamLimit →
-    streamWords ≤ length ws → (left : List ℕ) × Lent (flatten pieces) left
-c-stream-happens pieces ws small limit enough =
-    c-adds-happen [] (atFront (wordsOf begun) ws) pieces small (omega arith) (c-begin-happens ws enough)
+    Below (2 ^ 64) ws → streamWords ≤ length ws → (left : List ℕ) × Lent (flatten pieces) left
+c-stream-happens pieces ws small limit words enough =
+    c-adds-happen [] pieces small (omega arith)
+    (atFront (wordsOf begun) ws, below-front (wordsOf begun) ws begun-words words, c-begin-happens ws enough)

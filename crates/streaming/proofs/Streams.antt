@@ -1,14 +1,13 @@
 -- Streams by value, as theorems about calls that were made, each of which holds by the function's own contract. `stream-append`: a piece
--- and then another are done exactly where the two in one are, and leave the same. `stream-of`: pieces from the beginning lead to `streamOf`
--- of all bytes; `stream-answers`: none is refused but for the limit. `stream-root`: the root of the stream is that of the chunk tree, and
--- up to 1 MiB what a tree of the whole map writes, `stream-tree`. `begin-sound`, `add-sound`, `root-defined`: sound streams stay sound, and
--- have a root whatever their roots are.
+-- and then another are done exactly where the two in one are, and leave the same; `stream-nothing`: no bytes change nothing. `stream-of`:
+-- pieces from the beginning lead to `streamOf` of all bytes; `stream-answers`: none is refused but for the limit. `stream-root`: the root
+-- of the stream is that of the chunk tree, and up to 1 MiB what a tree of the whole map writes, `stream-tree`. `begin-sound`, `add-sound`,
+-- `root-defined`: sound streams stay sound, and have a root whatever their roots are.
 use Prim.Native.Nat.{ℕ, zero, suc, _+_, _≤_}
 use mathlib.Core.Bool.{true, cond}
-use mathlib.Core.List.{List, _++_}
+use mathlib.Core.List.{List, [], _++_}
 use mathlib.Core.Path.{_≡_, refl, sym, ap, ap₂, _∙_}
 use native.Mathlib.Omega.{arith}
-use borrow.Author.Tests.{ltb-false}
 use denote.Ref.{now}
 use lib.Dec.{ltb}
 use lib.ListN.{length, length-append}
@@ -17,15 +16,14 @@ use Rattle.answers.specs.declared.Answer.{Answer}
 use Rattle.answers.specs.Judged.{first, after}
 use Rattle.answers.specs.Numbers.{numberOf}
 use Rattle.answers.proofs.Outcome.{number-injective}
-use Rattle.answers.proofs.Tests.{passed}
 use Rattle.answers.proofs.Refusals.{done-first, done-leaves, refused-leaves}
 use Rattle.slices.specs.AtFront.{atFront}
 use Rattle.treerule.specs.Root.{nodeBytes, Node, root}
-use Rattle.tree.specs.Tree.{treeTests, rooted}
+use Rattle.tree.specs.Tree.{rooted}
 use Rattle.stream.specs.declared.Stream.{Stream}
 use Rattle.stream.specs.State.{sound, Shaped}
 use Rattle.stream.specs.Steps.{streamOf, streamLimit, taken, addTests, added, streamRoot}
-use Rattle.stream.proofs.Appending.{added-sound, added-taken, added-append, begun-sound, stream-none, stream-taken, stream-more}
+use Rattle.stream.proofs.Appending.{added-sound, added-none, added-append, begun-sound, stream-none, stream-taken, stream-more}
 use Rattle.stream.proofs.Appending.{stream-sound, stream-top, root-length}
 use Rattle.stream.proofs.state.begin as begin
 use Rattle.stream.proofs.state.begin.Reads as begin-reads
@@ -36,7 +34,8 @@ use Rattle.stream.proofs.root.root.Reads as rooting-reads
 use Rattle.tree.proofs.whole.tree as tree
 use Rattle.tree.proofs.whole.tree.Reads as tree-reads
 use Rattle.streaming.specs.ByValue.{Streamed, begun-by, added-by, kept-by}
-use Rattle.streaming.proofs.Passing.{AddPasses, add-passed, add-passes, add-answers, root-passes}
+use Rattle.streaming.proofs.Passing.{AddPasses, add-passed, add-passes, add-answers, root-passes, tree-room}
+use Rattle.streaming.proofs.Passing.{same-passes, passes-both, passes-first, passes-second}
 
 abbrev Add : Type 0
 Add = Made add.ended add-reads.Learnt
@@ -60,8 +59,10 @@ passes m d = add-passed (before m) (piece m) (done-first {r = m .result .answer}
 leaves : (m : Add) → Done m → m .result .stream ≡ added (before m) (piece m)
 leaves m d = done-leaves {r = m .result .answer} (m .learnt .0) d
 
-passes-done : (m : Add) → AddPasses (before m) (piece m) → Done m
-passes-done m p = number-injective (m .result .answer) Answer.Done (m .learnt .0 .answer ∙ add-passes (before m) (piece m) p)
+done-by : (m : Add) {s : Stream} {p : List ℕ} → before m ≡ s → piece m ≡ p → AddPasses s p → Done m
+done-by m on is h =
+    number-injective (m .result .answer) Answer.Done
+    (m .learnt .0 .answer ∙ add-passes (before m) (piece m) (same-passes on is h))
 
 -- ---- sound streams stay sound
 
@@ -80,6 +81,20 @@ left-by m (suc n) e ok =
 pub add-sound : (m : Add) → sound (before m) ≡ true → sound (m .result .stream) ≡ true
 add-sound m ok = left-by m (first (addTests (before m) (piece m))) refl ok
 
+-- ---- no bytes
+
+-- done or refused, no bytes change nothing
+pub stream-nothing : (m : Add) → piece m ≡ [] → m .result .stream ≡ before m
+stream-nothing m none = go (first (addTests (before m) (piece m))) refl
+  where
+    go : (n : ℕ) → first (addTests (before m) (piece m)) ≡ n → m .result .stream ≡ before m
+    go zero e =
+        let s = before m in
+        m .learnt .0 .leaves
+        ∙ ap₂ (λ (n : ℕ) (l : List ℕ). after n s (added s l)) e none
+        ∙ added-none s (shape m) (add-passed s (piece m) e .ok)
+    go (suc n) e = m .learnt .0 .leaves ∙ ap (λ (k : ℕ). after k (before m) (added (before m) (piece m))) e
+
 -- ---- a piece, and then another
 
 -- two adds, the second on what the first left, and one add of both pieces
@@ -90,46 +105,32 @@ pub record Appends (a b both : Add) : Type 0 where
   pub same : Done a → Done b → both .result .stream ≡ b .result .stream
 
 module _ (a b both : Add) (onA : before b ≡ a .result .stream) (alike : before both ≡ before a)
-    (joins : piece both ≡ piece a ++ piece b) where
+    (joined : piece both ≡ piece a ++ piece b) where
   abbrev s : Stream
   s = before a
 
-  long : length (piece both) ≡ length (piece a) + length (piece b)
-  long = ap length joins ∙ length-append (piece a) (piece b)
+  abbrev p : List ℕ
+  p = piece a
+
+  abbrev q : List ℕ
+  q = piece b
 
   -- the second comes to what the first left
-  second-on : Done a → before b ≡ added s (piece a)
+  second-on : Done a → before b ≡ added s p
   second-on d = onA ∙ leaves a d
 
-  second-taken : Done a → taken (before b) ≡ taken s + length (piece a)
-  second-taken d = ap taken (second-on d) ∙ added-taken s (shape a) (passes a d .ok) (piece a) (passes a d .within)
-
-  both-taken : taken (before both) ≡ taken s
-  both-taken = ap taken alike
+  both-pass : Done both → AddPasses s (p ++ q)
+  both-pass d = same-passes (sym alike) (sym joined) (passes both d)
 
   joined-done : Done a → Done b → Done both
   joined-done d e =
-      let p = passes b e .within in
-      passes-done both
-      (record {
-        ok = ap sound alike ∙ passes a d .ok;
-        within = omega (arith, long, both-taken, second-taken d);
-      })
+      done-by both alike joined (passes-both s (shape a) p q (passes a d) (same-passes (sym (second-on d)) refl (passes b e)))
 
   first-done : Done both → Done a
-  first-done d =
-      let p = passes both d .within in
-      passes-done a (record { ok = ap sound (sym alike) ∙ passes both d .ok; within = omega (arith, long, both-taken) })
+  first-done d = done-by a refl refl (passes-first s (shape a) p q (both-pass d))
 
   second-done : Done both → Done b
-  second-done d =
-      let e = first-done d in
-      let p = passes both d .within in
-      passes-done b
-      (record {
-        ok = ap sound (second-on e) ∙ added-sound s (shape a) (passes a e .ok) (piece a) (passes a e .within);
-        within = omega (arith, long, both-taken, second-taken e);
-      })
+  second-done d = done-by b (second-on (first-done d)) refl (passes-second s (shape a) p q (both-pass d))
 
   pub stream-append : Appends a b both
   stream-append =
@@ -140,11 +141,11 @@ module _ (a b both : Add) (onA : before b ≡ a .result .stream) (alike : before
         same =
             λ d e.
             leaves both (joined-done d e)
-            ∙ ap₂ added alike joins
+            ∙ ap₂ added alike joined
             ∙ sym
             (leaves b e
-            ∙ ap (λ (t : Stream). added t (piece b)) (second-on d)
-            ∙ added-append s (shape a) (passes a d .ok) (piece a) (passes a d .within) (piece b));
+            ∙ ap (λ (t : Stream). added t q) (second-on d)
+            ∙ added-append s (shape a) (passes a d .ok) p (passes a d .within) q);
       }
 
 -- ---- from the beginning
@@ -213,12 +214,10 @@ module _ {bytes : List ℕ} {s : Stream} (t : Streamed bytes s) (m : Root) (on :
   pub stream-tree : (w : Made tree.ended tree-reads.Learnt) → now (w .args .0) ≡ bytes → now (w .args .1 .0) ≡ out →
       w .result ≡ Answer.Done →
       (m .result ≡ Answer.Done) × (now (exit m .1 .0) ≡ now (exit w .1 .0))
-  unfolding rooted treeTests
+  unfolding rooted
   stream-tree w same room d =
-      let at = passed (treeTests (now (w .args .0)) (now (w .args .1 .0))) tt (done-first {r = w .result} (w .learnt) d) in
-      let enough : nodeBytes ≤ length out = ltb-false (length out) nodeBytes (ap (λ (l : List ℕ). ltb (length l) nodeBytes)
-      (sym room) ∙ at 1) in
-      let done = root-defined m (ap sound on ∙ streamed-sound t) enough .0 in (
+      let enough = tree-room (now (w .args .0)) (now (w .args .1 .0)) (done-first {r = w .result} (w .learnt) d) in
+      let done = root-defined m (ap sound on ∙ streamed-sound t) (omega (arith, ap length room, enough)) .0 in (
         done,
         stream-root done
             ∙ ap₂ (λ (b o : List ℕ). atFront (root b) o) (sym same) (sym room)

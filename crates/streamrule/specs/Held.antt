@@ -22,7 +22,8 @@ subtrees ns = subtreesIn (length ns) ns
 
 -- ---- what becomes of roots
 
--- the node above them: the last two have a parent, it and the one before have one, and so on to the first
+-- the node above them: the last two have a parent, it and the one before have one, and so on to the first; of one it is that node, and of
+-- none what no bytes hash to
 unfoldable pub folded : List Node → Node
 folded [] = sha256 []
 folded (n ∷ []) = n

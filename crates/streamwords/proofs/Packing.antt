@@ -1,19 +1,21 @@
--- A stream and its words: as the code unpacks and packs them (`unpacked`, `packed`), and that words which were packed hold that stream
--- again (`packed-holds`).
-use Prim.Native.Nat.{ℕ, _+_, _*_, _≤_}
+-- A stream and its words: as the code unpacks and packs them (`unpacked`, `packed`), that words which were packed hold that stream again
+-- (`packed-holds`), and that the words of the stream which words hold are those words (`holds-packed`).
+use Prim.Native.Nat.{ℕ, _+_, _*_, _^_, _≤_}
 use mathlib.Core.List.{List, [], _∷_, _++_, append-assoc, append-nil, map}
 use mathlib.Core.Path.{_≡_, refl, sym, ap, ap₂, _∙_}
 use native.Mathlib.Omega.{arith}
-use lib.ListN.{length, take, drop, getD, set, length-append, length-set}
+use lib.ListN.{length, take, drop, getD, set, length-append, length-set, take-append-drop}
 use lib.Seq.{take-at, drop-at, drop-drop}
 use Rattle.slices.specs.AtFront.{atFront}
-use Rattle.slices.specs.Below.{Bytes}
+use Rattle.slices.specs.Below.{Below, Bytes}
 use Rattle.slices.specs.Parts.{part, putPart}
 use Rattle.slices.proofs.AtFront.{atFront-room}
+use Rattle.slices.proofs.Below.{below-take, below-drop}
 use Rattle.slices.proofs.Parts.{length-part, front-put, length-put, drop-put}
 use Rattle.bigendian.specs.BigEndian.{word64}
 use Rattle.bigendian.specs.Words.{fromWords, toWords, withWords}
-use Rattle.bigendian.proofs.Words.{length-fromWords, length-toWords, toWords-word64, fromWords-toWords-all, withWords-all}
+use Rattle.bigendian.proofs.Words.{length-fromWords, length-toWords, toWords-word64, fromWords-toWords-all, toWords-fromWords}
+use Rattle.bigendian.proofs.Words.{withWords-all}
 use Rattle.treerule.specs.Root.{chunkBytes}
 use Rattle.stream.specs.declared.Stream.{Stream}
 use Rattle.stream.specs.State.{rootRoom, Shaped}
@@ -143,3 +145,32 @@ holds-shaped ws enough =
       roots = length-fromWords 8 (part ws rootsFrom rootWords) ∙ ap (λ (n : ℕ). n * 8) (length-part rootsFrom rootWords ws (omega arith));
       bytes = length-fromWords 8 (part ws bytesFrom byteWords) ∙ ap (λ (n : ℕ). n * 8) (length-part bytesFrom byteWords ws (omega arith));
     }
+
+two-words : (ws : List ℕ) → rootsFrom ≤ length ws → getD ws chunksWord 0 ∷ getD ws furtherWord 0 ∷ drop rootsFrom ws ≡ ws
+two-words [] h = absurd (omega arith)
+two-words (x ∷ []) h = absurd (omega arith)
+two-words (x ∷ y ∷ ws) h = refl
+
+-- a part of words is the words of its bytes
+part-words : (at k : ℕ) (ws : List ℕ) → at + k ≤ length ws → Below (2 ^ 64) ws → toWords k 8 (fromWords 8 (part ws at k)) ≡ part ws at k
+part-words at k ws within small =
+    ap (λ (n : ℕ). toWords n 8 (fromWords 8 (part ws at k))) (sym (length-part at k ws within))
+    ∙ toWords-fromWords 8 (part ws at k) (below-take k (drop at ws) (below-drop at ws small))
+
+pub holds-packed : (ws : List ℕ) → streamWords ≤ length ws → Below (2 ^ 64) ws → atFront (wordsOf (streamIn ws)) ws ≡ ws
+unfolding streamIn wordsOf
+holds-packed ws enough small =
+    let c = getD ws chunksWord 0 in
+    let f = getD ws furtherWord 0 in
+    let a = part ws rootsFrom rootWords in
+    let z = part ws bytesFrom byteWords in
+    let behind : z ++ drop streamWords ws ≡ drop bytesFrom ws =
+    ap (λ (l : List ℕ). z ++ l) (sym (drop-drop byteWords bytesFrom ws)) ∙ take-append-drop byteWords (drop bytesFrom ws) in
+    let all : a ++ drop bytesFrom ws ≡ drop rootsFrom ws =
+    ap (λ (l : List ℕ). a ++ l) (sym (drop-drop rootWords rootsFrom ws)) ∙ take-append-drop rootWords (drop rootsFrom ws) in
+    atFront-room (wordsOf (streamIn ws)) ws (omega (arith, length-wordsOf (streamIn ws)))
+    ∙ ap (λ (n : ℕ). wordsOf (streamIn ws) ++ drop n ws) (length-wordsOf (streamIn ws))
+    ∙ ap₂ (λ (l r : List ℕ). c ∷ f ∷ ((l ++ r) ++ drop streamWords ws))
+    (part-words rootsFrom rootWords ws (omega arith) small) (part-words bytesFrom byteWords ws (omega arith) small)
+    ∙ ap (λ (l : List ℕ). c ∷ f ∷ l) (append-assoc a z (drop streamWords ws) ∙ ap (λ (l : List ℕ). a ++ l) behind ∙ all)
+    ∙ two-words ws (omega arith)

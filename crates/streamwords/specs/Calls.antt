@@ -1,11 +1,12 @@
 -- The calls on a stream in lent words, their refusals in their order and what they leave: SPEC, "Tree over a stream". Too few words hold no
 -- stream, sound or not.
-use Prim.Native.Nat.{ℕ}
+use Prim.Native.Nat.{ℕ, _^_}
 use mathlib.Core.List.{List, [], _∷_}
 use lib.Dec.{ltb}
 use lib.ListN.{length}
 use Rattle.answers.specs.Judged.{Test, _when_, Judged}
 use Rattle.slices.specs.AtFront.{atFront}
+use Rattle.slices.specs.Below.{Below, Bytes}
 use Rattle.stream.specs.State.{begun}
 use Rattle.stream.specs.Steps as step
 use Rattle.streamwords.specs.Words.{streamWords, streamIn, wordsOf}
@@ -23,6 +24,10 @@ module _ (ws : List ℕ) where
 
   unfoldable pub addTests : List ℕ → List Test
   addTests piece = 6 when ltb (length ws) streamWords ∷ step.addTests (streamIn ws) piece
+
+  -- what is lent: words of 64 bits, and a piece of bytes. The types of the function see to it, and it hands it on in its contract
+  abbrev pub LendsPiece : List ℕ → Type 0
+  LendsPiece piece = Below (2 ^ 64) ws × Bytes piece
 
   -- the words of the new stream at the front, and those behind them as they were
   abbrev pub Adds : List ℕ → ℕ → List ℕ → Type 0

@@ -5,33 +5,32 @@ ghost use Prim.Native.Nat.{_≤_};
 ghost use lib.ListN.{length};
 ghost use Rattle.answers.specs.Numbers.{numberOf};
 ghost use Rattle.slices.specs.AtFront.{atFront};
-ghost use Rattle.slices.specs.Below.{Bytes};
 ghost use Rattle.streamwords.specs.Words.{streamWords, streamIn, wordsOf};
-ghost use Rattle.streamwords.specs.Calls.{Begins, Adds, Roots};
+ghost use Rattle.streamwords.specs.Calls.{Begins, LendsPiece, Adds, Roots};
 use answers::Answer;
 use stream::CHUNK;
 use stream::ROOTS;
 use stream::Stream;
 
-// Where they stand: the finished chunks, the bytes after them, the roots, and those bytes, eight to a word.
+// Where they stand: the finished chunks, how many bytes follow them, the roots, and those bytes, eight to a word.
 const CHUNKS: usize = 0;
 
 const FURTHER: usize = 1;
 
-const FROM: usize = 2;
+const ROOTS_FROM: usize = 2;
 
-const BYTES: usize = FROM + ROOTS / 8;
+const BYTES_FROM: usize = ROOTS_FROM + ROOTS / 8;
 
-pub const WORDS: usize = BYTES + CHUNK / 8;
+pub const WORDS: usize = BYTES_FROM + CHUNK / 8;
 
 fn unpack(words: &[u64]) -> Stream
     requires { ⌜ streamWords ≤ length (now words) ⌝ }
     ensures { λ r. ⌜ r ≡ streamIn (now (words .entry)) ⌝ }
 {
     let mut roots = [0u8; ROOTS];
-    bigendian::put_words(&mut roots, &words[FROM..BYTES], 8);
+    bigendian::put_words(&mut roots, &words[ROOTS_FROM..BYTES_FROM], 8);
     let mut bytes = [0u8; CHUNK];
-    bigendian::put_words(&mut bytes, &words[BYTES..WORDS], 8);
+    bigendian::put_words(&mut bytes, &words[BYTES_FROM..WORDS], 8);
     Stream {
         chunks: words[CHUNKS],
         further: words[FURTHER],
@@ -49,8 +48,8 @@ fn pack(words: &mut [u64], stream: Stream)
     let bytes = stream.bytes;
     words[CHUNKS] = stream.chunks;
     words[FURTHER] = stream.further;
-    bigendian::get_words(&mut words[FROM..BYTES], &roots, 8);
-    bigendian::get_words(&mut words[BYTES..WORDS], &bytes, 8);
+    bigendian::get_words(&mut words[ROOTS_FROM..BYTES_FROM], &roots, 8);
+    bigendian::get_words(&mut words[BYTES_FROM..WORDS], &bytes, 8);
 }
 
 // A stream of which nothing is taken, over words that held anything.
@@ -66,7 +65,7 @@ pub fn begin(words: &mut [u64]) -> Answer
 
 pub fn add(words: &mut [u64], piece: &[u8]) -> Answer
     ensures { λ r. ⌜ Adds (now (words .entry)) (now (piece .entry)) (numberOf r) (now (words .exit)) ⌝ }
-    ensures { λ _. ⌜ Bytes (now (piece .entry)) ⌝ }
+    ensures { λ _. ⌜ LendsPiece (now (words .entry)) (now (piece .entry)) ⌝ }
 {
     if words.len() < WORDS {
         return Answer::NotSound;

@@ -6,20 +6,19 @@ use borrow.Author.Tests.{lt-ltb}
 use Rattle.answers.specs.Judged.{first}
 use Rattle.answers.proofs.Outcome.{refused}
 use Rattle.answers.proofs.Refusals.{refuses}
-use Rattle.slices.specs.Below.{Bytes}
 use Rattle.streamwords.specs.Words.{streamWords}
-use Rattle.streamwords.specs.Calls.{addTests}
+use Rattle.streamwords.specs.Calls.{addTests, LendsPiece}
 use Rattle.streamwords.proofs.Judging.{add-refused, add-done}
 use Rattle.streamwords.proofs.add.Statement.{statement}
 use Rattle.streamwords.proofs.add.Tie as tie
 
--- what ownership knows: the piece is bytes
-bytes : (c : tie.After-shared-slice-known) → Bytes (c .before .before .args .piece .now)
-bytes c i = c .shared-slice-known .given i .fits
+-- what ownership knows
+lends : (c : tie.After-shared-slice-known) → LendsPiece (c .before .before .args .words .now) (c .before .before .args .piece .now)
+lends c = ((λ i. c .before .slice-known .given i .fits), (λ i. c .shared-slice-known .given i .fits))
 
 returns : tie.Need-returns
 unfolding addTests first
-returns c = (refused (rw (lt-ltb _ streamWords (c .if1 .taken))) tt refl, bytes (c .before))
+returns c = (refused (rw (lt-ltb _ streamWords (c .if1 .taken))) tt refl, lends (c .before))
 
 returns-2 : tie.Need-returns-2
 returns-2 c =
@@ -27,8 +26,7 @@ returns-2 c =
     let u = a .before in
     let e = u .before .before in (
       add-refused _ (e .if1 .left) _ (u .unpack .ensures) (a .add .ensures .0) (refuses (a .add .result .answer) (c .match .keys2)),
-      bytes
-          (e .before),
+      lends (e .before),
     )
 
 returns-3 : tie.Need-returns-3
@@ -39,7 +37,7 @@ returns-3 c =
     let u = a .before in
     let e = u .before .before in (
       add-done _ (e .if1 .left) _ (u .unpack .ensures) (a .add .ensures .0) (t .enum-told .given .1) (p .pack .ensures),
-      bytes (e .before),
+      lends (e .before),
     )
 
 pub add-spec : {M : Type 1} → statement M

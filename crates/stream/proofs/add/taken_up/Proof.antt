@@ -29,7 +29,7 @@ returns c =
     let g = h .before .before in
     let f = g .before .before .before in
     let s = f .before .before .before .before in
-    taken-law (s .args .chunks) (s .args .roots) (s .args .begun .now) (s .args .rest .now) _ _ (s .pre .0) (s .pre .1) (roots-long g)
+    taken-law (s .args .chunks) (s .args .roots) (s .args .front .now) (s .args .rest .now) _ _ (s .pre .0) (s .pre .1) (roots-long g)
     (f .grow .ensures) (g .grow2 .ensures) (h .held .ensures) (r .rest-at .ensures) (c .before .before .padded .ensures)
     (c .padded2 .ensures)
 
