@@ -1,4 +1,5 @@
--- What a sound stream has, `Sound`; that it is the one form of what it holds, `one-form`; and that such a form is sound, `form-sound`.
+-- What a sound stream has: `Sound`, with its counts, `Counts`. And when it is sound, as the code asks it: the counts first, then zeros
+-- behind the roots and behind the bytes (`bad-counts`, `bad-roots`, `by-bytes`).
 use Prim.Native.Nat.{ℕ, zero, suc, _+_, _-_, _*_, _<_, _≤_}
 use mathlib.Core.Bool.{Bool, true, false, false≢true, cond, _||_}
 use mathlib.Core.List.{List, [], _∷_, _++_}

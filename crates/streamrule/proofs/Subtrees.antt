@@ -1,5 +1,5 @@
 -- The roots of the full subtrees of leaves: as many as their number has ones, `held-ones`; folded, with at most one node behind them, they
--- are the top of all, `folded-top`; a leaf more is joined with as many as that number had ones at its end, `subtrees-snoc`.
+-- are the top of all, `folded-top`; a leaf more is joined with as many as that number had ones at its end, `subtrees-snoc` and `joins`.
 use Prim.Native.Nat.{ℕ, zero, suc, _+_, _-_, _*_, _^_, _<_, _≤_}
 use mathlib.Core.Bool.{Bool, true, false}
 use mathlib.Core.List.{List, [], _∷_, _++_, append-nil, append-assoc}
@@ -183,7 +183,7 @@ subtrees-snoc ns m =
     ∙ snoc-in (suc n) ns m (lt-two-pow (suc n))
     ∙ ap (λ (l : List Node). joined (onesAtEnd n) l m) (without-digit n ns (lt-two-pow n))
 
--- request 04: a leaf more is joined with as many roots as the number of leaves had ones at its end
+-- a leaf more is joined with as many roots as the number of leaves had ones at its end: so many fewer are left, and one more
 pub length-pushed : (n : ℕ) (roots : List Node) (leaf : Node) → length roots ≡ ones n →
     length (pushed n roots leaf) + onesAtEnd n ≡ suc (length roots)
 unfolding pushed
