@@ -1,8 +1,10 @@
 //! Dwombarine against plain Rust on the same 16 MiB, turn and turn about in one process; of each the best turn counts, in processor time.
 mod clock;
+mod message;
 mod plain;
 
 use clock::timed;
+use message::message;
 use std::time::Duration;
 
 extern "C" {
@@ -38,20 +40,6 @@ fn each_at_once(edition: u64, message: &[u8], out: &mut [u8]) {
     for piece in message.chunks(4096) {
         dwombarine(edition, piece, out);
     }
-}
-
-/// Bytes that follow no pattern, the same at every run.
-fn message(count: usize) -> Vec<u8> {
-    let mut x: u64 = 0x9e37_79b9_7f4a_7c15;
-    let mut bytes = Vec::with_capacity(count);
-    while bytes.len() < count {
-        x ^= x << 13;
-        x ^= x >> 7;
-        x ^= x << 17;
-        bytes.extend_from_slice(&x.to_le_bytes());
-    }
-    bytes.truncate(count);
-    bytes
 }
 
 /// Measures both on the same work, each `turns` times, in alternating order, and answers the best time of each.

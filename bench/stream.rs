@@ -5,8 +5,10 @@
 //! counts, and the time of a way is the sum over its slices. Which way comes first in a slice, and finds its bytes further away, changes
 //! from turn to turn.
 mod clock;
+mod message;
 
 use clock::timed;
+use message::message;
 use std::time::Duration;
 
 const CHUNK: usize = 1024;
@@ -93,20 +95,6 @@ impl Feed {
             assert_eq!(number, 0, "root answered {number}");
         }
     }
-}
-
-/// Bytes that follow no pattern, the same at every run.
-fn message(count: usize) -> Vec<u8> {
-    let mut x: u64 = 0x9e37_79b9_7f4a_7c15;
-    let mut bytes = Vec::with_capacity(count + 8);
-    while bytes.len() < count {
-        x ^= x << 13;
-        x ^= x >> 7;
-        x ^= x << 17;
-        bytes.extend_from_slice(&x.to_le_bytes());
-    }
-    bytes.truncate(count);
-    bytes
 }
 
 fn main() {

@@ -11,7 +11,8 @@ from itertools import combinations, combinations_with_replacement
 
 import rules
 from driver import ALIGNED, FAR, GUARD_WORDS, Call, Memory, Word, changes, compare
-from rules import CHUNK, LIMIT, MOST, NODE, ROOM, WORDS, Map
+from rules import LIMIT, MOST, ROOM, WORDS, Map
+from trees import CHUNK, NODE
 
 LONGEST_TREE = 1_048_576  # bytes, for the call that takes a whole map
 LONGEST_RUN = 4096 - 2 * GUARD_WORDS  # the driver has room for 4,096 words

@@ -1,33 +1,16 @@
-"""The tree over a stream in Python with hashlib: its words, when they are sound, and what each call answers, leaves and writes.
+"""The tree over a stream in Python: its words, when they are sound, and what each call answers, leaves and writes.
 
 No chunk is joined to what is held: every node here, a root that is held and the root of all, is the tree hash of RFC 6962, section 2.1,
 over the chunks below it, by splits from the top. So it is for a stream that begins with roots that were made up, whose chunks nobody has.
 """
-import hashlib
 import struct
 
-CHUNK, NODE = 1024, 32
+from trees import CHUNK, NODE, largest_below, leaf, parent, sha256
+
 MOST = 2**32  # chunks
 LIMIT = MOST * CHUNK  # bytes
 ROOM = 32 * NODE  # of the roots: no number up to MOST has more than 32 one bits
 WORDS = 2 + ROOM // 8 + CHUNK // 8
-
-
-def sha256(data):
-    return hashlib.sha256(data).digest()
-
-
-def leaf(entry):
-    return sha256(b"\x00" + entry)
-
-
-def parent(left, right):
-    return sha256(b"\x01" + left + right)
-
-
-def largest_below(n):
-    """The largest power of two below n, which is 2 or more."""
-    return 1 << (n - 1).bit_length() - 1
 
 
 def full(chunks):

@@ -8,9 +8,10 @@ import random
 import sys
 
 from parts import Parts, vectors
-from rules import CHUNK, NODE, old_tree, tree
+from rules import old_tree, tree
 
 from driver import ALIGNED, FAR, Call, compare
+from trees import CHUNK, NODE
 
 LIMIT = 1_048_576
 

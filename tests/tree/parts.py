@@ -6,9 +6,10 @@ made all of it, and its last reply is what was published, or the node by RFC 696
 """
 from pathlib import Path
 
-from rules import CHUNK, NODE, largest_below, leaf, level, parent, split
+from rules import level, split
 
 from driver import ALIGNED, Call
+from trees import CHUNK, NODE, largest_below, leaf, parent
 
 VECTORS = Path(__file__).parent / "data/rfc6962.txt"
 
