@@ -101,7 +101,8 @@ static void streams(void)
     memset(stream, 0xee, sizeof stream);
     expect("begin in 257 words", dw_stream_begin(stream, DW_STREAM_WORDS - 1), DW_SHORT_OUTPUT);
     expect("add where no stream is", dw_stream_add(stream, DW_STREAM_WORDS, message, 1), DW_NOT_SOUND);
-    expect("begin", dw_stream_begin(stream, DW_STREAM_WORDS + 1), DW_DONE);
+    expect("begin", dw_stream_begin(stream, DW_STREAM_WORDS), DW_DONE);
+    expect("begin in more words", dw_stream_begin(stream, DW_STREAM_WORDS + 1), DW_DONE);
     for (turn = 0; turn < 20; turn++) {
         expect("stream add", dw_stream_add(stream, DW_STREAM_WORDS, message, MOST), DW_DONE);
         expect("stream root", dw_stream_root(stream, DW_STREAM_WORDS, root, sizeof root), DW_DONE);

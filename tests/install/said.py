@@ -58,7 +58,9 @@ def tree(chunks):
     return hashlib.sha256(b"\1" + tree(chunks[:k]) + tree(chunks[k:])).digest()
 
 
-expected += ["root " + tree([b"m" * n for n in (1024, 1024, 1024, 1024, 1024, 880)]).hex()]
+stream = tree([b"m" * n for n in (1024, 1024, 1024, 1024, 1024, 880)]).hex()
+assert f"`{stream[:32]}`" in spec and f"`{stream[32:]}`" in spec, "SPEC's sample of a stream has another root"
+expected += ["root " + stream]
 
 said = Path(sys.argv[1]).read_text().splitlines()
 faults = [f"not said: {line}" for line in expected if line not in said] + [f"said: {line}" for line in said if line not in expected]

@@ -159,7 +159,7 @@ static void measure(int call, void (*prepare)(void), void (*use)(void))
         refused[call]++;
 }
 
-/* Streams that a chunk is joined with no root and with all, up to the limit; few bytes and many after the chunks; each refusal. */
+/* Streams in which a new chunk is joined with no root, and with all of up to 32; few bytes and many after the chunks; each refusal. */
 static void stream_uses(void)
 {
     static const uint64_t chunks[] = {0, 1, 2, 0x7fffffff, 0xffffffff, 0x100000000};

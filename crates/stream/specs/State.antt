@@ -12,7 +12,7 @@ use Rattle.fips.specs.Bits.{pieces}
 use Rattle.treerule.specs.Root.{chunkBytes, nodeBytes, Node}
 use Rattle.stream.specs.declared.Stream.{Stream}
 
--- house: at most 2^32 chunks. Of so many and of fewer no number has more than 32 ones, so many roots have room
+-- house: at most 2^32 chunks. No number up to that has more than 32 ones, and there is room for as many roots
 abbrev pub mostChunks : ℕ
 mostChunks = 4294967296
 

@@ -42,7 +42,7 @@ fn too_long(stream: Stream, n: usize) -> bool
     room < n as u64
 }
 
-// Bytes with zeros behind them, as many as a chunk has, and as all roots have.
+// Bytes with zeros behind them, 1,024 in all: so many has a chunk, and so many have all roots.
 fn padded(bytes: &[u8]) -> [u8; CHUNK]
     ensures { λ r. ⌜ r ≡ paddedTo chunkBytes (now (bytes .entry)) ⌝ }
 {
@@ -51,7 +51,8 @@ fn padded(bytes: &[u8]) -> [u8; CHUNK]
     room
 }
 
-// The stream once two runs of bytes have followed the finished chunks, of which the first is whole chunks: none, or the one that was begun.
+// The stream once two runs of bytes have followed the finished chunks. The first is whole chunks: `with_piece` lends the one that was
+// begun, or nothing.
 fn taken_up(chunks: u64, roots: [u8; ROOTS], front: &[u8], rest: &[u8]) -> Stream
     requires { ⌜ (length (now front) / chunkBytes * chunkBytes ≡ length (now front))
         × (chunks + length (now front) / chunkBytes + length (now rest) / chunkBytes ≤ mostChunks) ⌝ }

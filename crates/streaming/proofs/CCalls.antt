@@ -1,7 +1,8 @@
--- Calls on a stream under C names, one by one, over any words: `c-add-sound` and `c-root-defined`, sound streams stay sound and have a
--- root; `c-add-nothing`, no bytes change nothing; `c-stream-append`, a piece and then another are done exactly where the two in one are,
--- and leave the same words; `c-begin-behind` and `c-add-behind`, the words behind a stream are never touched.
-use Prim.Native.Nat.{ℕ, zero, suc, _≤_}
+-- Calls on a stream under C names, one by one, over any words: `c-begin-kept`, `c-add-kept`, `c-root-kept`, a refused call changes nothing;
+-- `c-begin-sound`, `c-add-sound`, `c-root-defined`, sound streams stay sound and have a root; `c-add-nothing`, no bytes change nothing;
+-- `c-stream-append`, a piece and then another are done exactly where the two in one are, and leave the same words; `c-begin-behind`,
+-- `c-add-behind`, the words behind a stream are never touched.
+use Prim.Native.Nat.{ℕ, zero, suc, _<_, _≤_}
 use mathlib.Core.Bool.{true}
 use mathlib.Core.List.{List, [], _++_}
 use mathlib.Core.Path.{_≡_, refl, sym, ap, ap₂, _∙_}
@@ -21,7 +22,7 @@ use Rattle.stream.specs.declared.Stream.{Stream}
 use Rattle.stream.specs.State.{begun, sound}
 use Rattle.stream.specs.Steps as step
 use Rattle.stream.specs.Steps.{added, streamRoot}
-use Rattle.stream.proofs.Appending.{added-sound, added-none, added-append, root-length}
+use Rattle.stream.proofs.Appending.{begun-sound, added-sound, added-none, added-append, root-length}
 use Rattle.streamwords.specs.Words.{streamWords, streamIn, wordsOf}
 use Rattle.streamwords.specs.Calls.{beginTests, addTests, rootTests}
 use Rattle.streamwords.proofs.Packing.{length-wordsOf, holds-shaped, holds-packed}
@@ -116,7 +117,21 @@ done-by m enough on is h =
 pub root-done : (m : Root) → m .result ≡ 0 → now (exit m .1 .0) ≡ atFront (streamRoot (streamIn (now (m .args .0)))) (now (m .args .1 .0))
 root-done m e = done-is (m .learnt) e .1
 
+-- ---- a refused call changes nothing
+
+pub c-begin-kept : (m : Begin) → 0 < m .result → now (exit m .0) ≡ now (m .args .0)
+c-begin-kept m r = refused-leaves (m .learnt) r
+
+pub c-add-kept : (m : Add) → 0 < m .result → now (exit m .0) ≡ before m
+c-add-kept m r = refused-leaves (m .learnt .0) r
+
+pub c-root-kept : (m : Root) → 0 < m .result → now (exit m .1 .0) ≡ now (m .args .1 .0)
+c-root-kept m r = refused-leaves (m .learnt) r
+
 -- ---- sound streams stay sound, and have a root
+
+pub c-begin-sound : (m : Begin) → m .result ≡ 0 → sound (streamIn (now (exit m .0))) ≡ true
+c-begin-sound m e = ap sound (begin-done m e .holds) ∙ begun-sound
 
 pub c-add-sound : (m : Add) → sound (streamIn (before m)) ≡ true → sound (streamIn (now (exit m .0))) ≡ true
 c-add-sound m ok = go (m .result) refl
@@ -126,7 +141,7 @@ c-add-sound m ok = go (m .result) refl
         let d = add-done m e in
         ap sound (d .left .holds)
         ∙ added-sound (streamIn (before m)) (holds-shaped (before m) (d .left .enough)) ok (piece m) (d .passes .within)
-    go (suc n) e = ap (λ (l : List ℕ). sound (streamIn l)) (refused-leaves (m .learnt .0) (omega arith)) ∙ ok
+    go (suc n) e = ap (λ (l : List ℕ). sound (streamIn l)) (c-add-kept m (omega arith)) ∙ ok
 
 -- whatever its roots are
 pub c-root-defined : (m : Root) → streamWords ≤ length (now (m .args .0)) → sound (streamIn (now (m .args .0))) ≡ true →
@@ -153,7 +168,7 @@ c-add-nothing m none = go (m .result) refl
         ∙ ap (λ (l : List ℕ). atFront (wordsOf (added (streamIn ws) l)) ws) none
         ∙ ap (λ (s : Stream). atFront (wordsOf s) ws) (added-none (streamIn ws) (holds-shaped ws enough) (d .passes .ok))
         ∙ holds-packed ws enough (m .learnt .1 .0)
-    go (suc n) e = refused-leaves (m .learnt .0) (omega arith)
+    go (suc n) e = c-add-kept m (omega arith)
 
 -- ---- the words behind
 

@@ -12,7 +12,6 @@ use lib.Dec.{ltb}
 use lib.ListN.{length, length-append}
 use Rattle.contracts.specs.Says.{Made, exit}
 use Rattle.answers.specs.Judged.{first}
-use Rattle.answers.proofs.Refusals.{refused-leaves}
 use Rattle.slices.specs.AtFront.{atFront}
 use Rattle.treerule.specs.Root.{nodeBytes, Node, root}
 use Rattle.tree.specs.Tree.{rooted}
@@ -27,6 +26,7 @@ use Rattle.capi.proofs.dw_tree.Reads as tree-reads
 use Rattle.streaming.specs.InC.{Lent, begun-in, added-in, kept-in}
 use Rattle.streaming.proofs.Passing.{add-answers, root-answers, tree-room}
 use Rattle.streaming.proofs.CCalls.{Add, Root, before, piece, done-is, add-tests, root-tests, begin-done, add-done, root-done}
+use Rattle.streaming.proofs.CCalls.{c-add-kept}
 
 -- what was taken keeps the limit, and the words are enough and hold what it leads to
 pub record Holds (bytes ws : List ℕ) : Type 0 where
@@ -49,7 +49,7 @@ holds (begun-in m e) =
     let d = begin-done m e in
     record { within = omega arith; enough = omega (arith, d .long, d .enough); is = d .holds ∙ sym stream-none }
 holds (added-in {bytes} {ws} t m on e) = added-holds bytes m (subst (λ (l : List ℕ). Holds bytes l) (sym on) (holds t)) e
-holds (kept-in {bytes} {ws} t m on r) = subst (λ (l : List ℕ). Holds bytes l) (sym (refused-leaves (m .learnt .0) r ∙ on)) (holds t)
+holds (kept-in {bytes} {ws} t m on r) = subst (λ (l : List ℕ). Holds bytes l) (sym (c-add-kept m r ∙ on)) (holds t)
 
 pub c-stream-of : {bytes ws : List ℕ} → Lent bytes ws → streamIn ws ≡ streamOf bytes
 c-stream-of t = holds t .is

@@ -2,8 +2,9 @@
 -- and then another are done exactly where the two in one are, and leave the same; `stream-nothing`: no bytes change nothing. `stream-of`:
 -- pieces from the beginning lead to `streamOf` of all bytes; `stream-answers`: none is refused but for the limit. `stream-root`: the root
 -- of the stream is that of the chunk tree, and up to 1 MiB what a tree of the whole map writes, `stream-tree`. `begin-sound`, `add-sound`,
--- `root-defined`: sound streams stay sound, and have a root whatever their roots are.
-use Prim.Native.Nat.{ℕ, zero, suc, _+_, _≤_}
+-- `root-defined`: sound streams stay sound, and have a root whatever their roots are. `stream-kept`, `output-kept`: a refused call changes
+-- nothing.
+use Prim.Native.Nat.{ℕ, zero, suc, _+_, _<_, _≤_}
 use mathlib.Core.Bool.{true, cond}
 use mathlib.Core.List.{List, [], _++_}
 use mathlib.Core.Path.{_≡_, refl, sym, ap, ap₂, _∙_}
@@ -80,6 +81,11 @@ left-by m (suc n) e ok =
 
 pub add-sound : (m : Add) → sound (before m) ≡ true → sound (m .result .stream) ≡ true
 add-sound m ok = left-by m (first (addTests (before m) (piece m))) refl ok
+
+-- ---- a refused call changes nothing
+
+pub stream-kept : (m : Add) → 0 < numberOf (m .result .answer) → m .result .stream ≡ before m
+stream-kept m r = refused-leaves (m .learnt .0) r
 
 -- ---- no bytes
 
@@ -170,7 +176,7 @@ leads (begun-by m) = record { within = omega arith; is = m .learnt ∙ sym strea
 leads (added-by {bytes} {s} t m on d) = added-of bytes s m (leads t) on d
 leads (kept-by {bytes} {s} t m on r) =
     let l = leads t in
-    record { within = l .within; is = refused-leaves (m .learnt .0) r ∙ on ∙ l .is }
+    record { within = l .within; is = stream-kept m r ∙ on ∙ l .is }
 
 pub stream-of : {bytes : List ℕ} {s : Stream} → Streamed bytes s → s ≡ streamOf bytes
 stream-of t = leads t .is
@@ -191,6 +197,9 @@ stream-answers {bytes} t m on =
 
 abbrev Root : Type 0
 Root = Made rooting.ended rooting-reads.Learnt
+
+pub output-kept : (m : Root) → 0 < numberOf (m .result) → now (exit m .1 .0) ≡ now (m .args .1 .0)
+output-kept m r = refused-leaves (m .learnt .0) r
 
 -- of a sound stream: it is answered wherever it finds room, and is as long as a node is
 pub root-defined : (m : Root) → sound (m .args .0) ≡ true → nodeBytes ≤ length (now (m .args .1 .0)) →
