@@ -1,5 +1,6 @@
 -- How a call's outcome is made of those of its parts: `stopped` by the first tests, `went-on` past them; a part that refuses,
--- `part-refused`, or is done, `done-first` and `done-leaves`. An answer that is not Done refuses: `refuses`.
+-- `part-refused`, or is done, `done-first` and `done-leaves`, by its number `zero-first` and `zero-leaves`. An answer that is not Done
+-- refuses: `refuses`.
 use Prim.Native.Nat.{ℕ, zero, suc, _<_}
 use mathlib.Core.List.{List, [], _∷_, _++_}
 use mathlib.Core.Path.{_≡_, refl, sym, ap, subst, _∙_}
@@ -49,11 +50,17 @@ module _ {A B : Type 0} {o n l : A} {old new left : B} {ts : List Test} {r : ℕ
   pub part-refused : Judged ts o n r l → 0 < r → left ≡ old → Judged ts old new r left
   part-refused j p e = refused (sym (j .answer)) (lt→ltb 0 r p) e
 
+pub zero-first : {A : Type 0} {o n l : A} {ts : List Test} {r : ℕ} → Judged ts o n r l → r ≡ 0 → first ts ≡ 0
+zero-first j e = sym (j .answer) ∙ e
+
+pub zero-leaves : {A : Type 0} {o n l : A} {ts : List Test} {r : ℕ} → Judged ts o n r l → r ≡ 0 → l ≡ n
+zero-leaves j e = j .leaves ∙ rw (zero-first j e)
+
 pub done-first : {A : Type 0} {o n l : A} {ts : List Test} {r : Answer} → Judged ts o n (numberOf r) l → r ≡ Answer.Done → first ts ≡ 0
-done-first j d = sym (j .answer) ∙ ap numberOf d
+done-first j d = zero-first j (ap numberOf d)
 
 pub done-leaves : {A : Type 0} {o n l : A} {ts : List Test} {r : Answer} → Judged ts o n (numberOf r) l → r ≡ Answer.Done → l ≡ n
-done-leaves j d = j .leaves ∙ rw (done-first j d)
+done-leaves j d = zero-leaves j (ap numberOf d)
 
 pub kept-old : {A : Type 0} (k : ℕ) (o n : A) → 0 < k → after k o n ≡ o
 kept-old zero o n p = absurd (omega arith)

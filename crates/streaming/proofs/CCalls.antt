@@ -12,8 +12,8 @@ use denote.Ref.{now}
 use lib.Dec.{ltb}
 use lib.ListN.{length, drop}
 use Rattle.contracts.specs.Says.{Made, exit}
-use Rattle.answers.specs.Judged.{Test, _when_, Judged, first, after}
-use Rattle.answers.proofs.Refusals.{refused-leaves}
+use Rattle.answers.specs.Judged.{_when_, first, after}
+use Rattle.answers.proofs.Refusals.{zero-first, zero-leaves, refused-leaves}
 use Rattle.answers.proofs.Tests.{passed, first-skip}
 use Rattle.slices.specs.AtFront.{atFront}
 use Rattle.slices.proofs.AtFront.{length-atFront, drop-front, front-again}
@@ -54,11 +54,6 @@ piece m = now (m .args .1 .0)
 
 -- ---- calls that are done
 
-pub done-is : {A : Type 0} {o n l : A} {ts : List Test} {r : ℕ} → Judged ts o n r l → r ≡ 0 → (first ts ≡ 0) × (l ≡ n)
-done-is {o = o} {n = n} j e =
-    let none = sym (j .answer) ∙ e in
-    (none, j .leaves ∙ ap (λ (k : ℕ). after k o n) none)
-
 -- where the words are enough, the stream's own tests decide
 pub add-tests : (ws piece : List ℕ) → streamWords ≤ length ws → first (addTests ws piece) ≡ first (step.addTests (streamIn ws) piece)
 unfolding addTests
@@ -86,9 +81,8 @@ pub begin-done : (m : Begin) → m .result ≡ 0 → Puts begun (now (m .args .0
 unfolding beginTests
 begin-done m e =
     let ws = now (m .args .0) in
-    let d = done-is (m .learnt) e in
-    let enough = ltb-false (length ws) streamWords (passed (beginTests ws) tt (d .0) 0) in
-    puts begun ws (now (exit m .0)) enough (d .1) (begun-packed ws enough)
+    let enough = ltb-false (length ws) streamWords (passed (beginTests ws) tt (zero-first (m .learnt) e) 0) in
+    puts begun ws (now (exit m .0)) enough (zero-leaves (m .learnt) e) (begun-packed ws enough)
 
 pub record AddDone (m : Add) : Type 0 where
   pub passes : AddPasses (streamIn (before m)) (piece m)
@@ -99,12 +93,14 @@ unfolding addTests step.addTests
 add-done m e =
     let ws = before m in
     let s = streamIn ws in
-    let d = done-is (m .learnt .0) e in
-    let enough = ltb-false (length ws) streamWords (passed (addTests ws (piece m)) tt (d .0) 0) in
-    let pass = add-passed s (piece m) (sym (add-tests ws (piece m) enough) ∙ d .0) in
+    let none = zero-first (m .learnt .0) e in
+    let enough = ltb-false (length ws) streamWords (passed (addTests ws (piece m)) tt none 0) in
+    let pass = add-passed s (piece m) (sym (add-tests ws (piece m) enough) ∙ none) in
     record {
       passes = pass;
-      left = puts (added s (piece m)) ws (now (exit m .0)) enough (d .1) (added-packed ws enough (piece m) (pass .ok) (m .learnt .1 .1));
+      left =
+          puts (added s (piece m)) ws (now (exit m .0)) enough (zero-leaves (m .learnt .0) e)
+          (added-packed ws enough (piece m) (pass .ok) (m .learnt .1 .1));
     }
 
 done-by : (m : Add) {s : Stream} {p : List ℕ} → streamWords ≤ length (before m) → streamIn (before m) ≡ s → piece m ≡ p → AddPasses s p →
@@ -115,7 +111,7 @@ done-by m enough on is h =
     ∙ add-passes (streamIn (before m)) (piece m) (same-passes on is h)
 
 pub root-done : (m : Root) → m .result ≡ 0 → now (exit m .1 .0) ≡ atFront (streamRoot (streamIn (now (m .args .0)))) (now (m .args .1 .0))
-root-done m e = done-is (m .learnt) e .1
+root-done m e = zero-leaves (m .learnt) e
 
 -- ---- a refused call changes nothing
 

@@ -12,6 +12,7 @@ use lib.Dec.{ltb}
 use lib.ListN.{length, length-append}
 use Rattle.contracts.specs.Says.{Made, exit}
 use Rattle.answers.specs.Judged.{first}
+use Rattle.answers.proofs.Refusals.{zero-first, zero-leaves}
 use Rattle.slices.specs.AtFront.{atFront}
 use Rattle.treerule.specs.Root.{nodeBytes, Node, root}
 use Rattle.tree.specs.Tree.{rooted}
@@ -25,7 +26,7 @@ use Rattle.capi.proofs.dw_tree as tree
 use Rattle.capi.proofs.dw_tree.Reads as tree-reads
 use Rattle.streaming.specs.InC.{Lent, begun-in, added-in, kept-in}
 use Rattle.streaming.proofs.Passing.{add-answers, root-answers, tree-room}
-use Rattle.streaming.proofs.CCalls.{Add, Root, before, piece, done-is, add-tests, root-tests, begin-done, add-done, root-done}
+use Rattle.streaming.proofs.CCalls.{Add, Root, before, piece, add-tests, root-tests, begin-done, add-done, root-done}
 use Rattle.streaming.proofs.CCalls.{c-add-kept}
 
 -- what was taken keeps the limit, and the words are enough and hold what it leads to
@@ -95,9 +96,8 @@ module _ {bytes ws : List ℕ} (t : Lent bytes ws) where
   unfolding rooted
   c-stream-tree m on w same room e =
       let out = now (m .args .1 .0) in
-      let d = done-is (w .learnt) e in
-      let enough = tree-room (now (w .args .0)) (now (w .args .1 .0)) (d .0) in
+      let enough = tree-room (now (w .args .0)) (now (w .args .1 .0)) (zero-first (w .learnt) e) in
       let done : m .result ≡ 0 = c-root-answers m on ∙ rw (le-ltb (length out) nodeBytes (omega (arith, ap length room, enough))) in (
         done,
-        c-stream-root m on done ∙ ap₂ (λ (b o : List ℕ). atFront (root b) o) (sym same) (sym room) ∙ sym (d .1),
+        c-stream-root m on done ∙ ap₂ (λ (b o : List ℕ). atFront (root b) o) (sym same) (sym room) ∙ sym (zero-leaves (w .learnt) e),
       )

@@ -14,16 +14,15 @@ use lib.Dec.{ltb}
 use lib.ListN.{length, length-append}
 use Rattle.contracts.specs.Says.{Made, exit}
 use Rattle.answers.specs.declared.Answer.{Answer}
-use Rattle.answers.specs.Judged.{first, after}
 use Rattle.answers.specs.Numbers.{numberOf}
 use Rattle.answers.proofs.Outcome.{number-injective}
-use Rattle.answers.proofs.Refusals.{done-first, done-leaves, refused-leaves}
+use Rattle.answers.proofs.Refusals.{zero-first, zero-leaves, done-first, done-leaves, refused-leaves}
 use Rattle.slices.specs.AtFront.{atFront}
 use Rattle.treerule.specs.Root.{nodeBytes, Node, root}
 use Rattle.tree.specs.Tree.{rooted}
 use Rattle.stream.specs.declared.Stream.{Stream}
 use Rattle.stream.specs.State.{sound, Shaped}
-use Rattle.stream.specs.Steps.{streamOf, streamLimit, taken, addTests, added, streamRoot}
+use Rattle.stream.specs.Steps.{streamOf, streamLimit, taken, added, streamRoot}
 use Rattle.stream.proofs.Appending.{added-sound, added-none, added-append, begun-sound, stream-none, stream-taken, stream-more}
 use Rattle.stream.proofs.Appending.{stream-sound, stream-top, root-length}
 use Rattle.stream.proofs.state.begin as begin
@@ -65,41 +64,38 @@ done-by m on is h =
     number-injective (m .result .answer) Answer.Done
     (m .learnt .0 .answer ∙ add-passes (before m) (piece m) (same-passes on is h))
 
--- ---- sound streams stay sound
-
-pub begin-sound : (m : Made begin.ended begin-reads.Learnt) → sound (m .result) ≡ true
-begin-sound m = ap sound (m .learnt) ∙ begun-sound
-
--- what an add leaves: the old stream, or the new one where it is done
-left-by : (m : Add) (n : ℕ) → first (addTests (before m) (piece m)) ≡ n → sound (before m) ≡ true → sound (m .result .stream) ≡ true
-left-by m zero e ok =
-    let p = add-passed (before m) (piece m) e in
-    ap sound (m .learnt .0 .leaves ∙ ap (λ (n : ℕ). after n (before m) (added (before m) (piece m))) e)
-    ∙ added-sound (before m) (shape m) ok (piece m) (p .within)
-left-by m (suc n) e ok =
-    ap sound (m .learnt .0 .leaves ∙ ap (λ (k : ℕ). after k (before m) (added (before m) (piece m))) e) ∙ ok
-
-pub add-sound : (m : Add) → sound (before m) ≡ true → sound (m .result .stream) ≡ true
-add-sound m ok = left-by m (first (addTests (before m) (piece m))) refl ok
-
 -- ---- a refused call changes nothing
 
 pub stream-kept : (m : Add) → 0 < numberOf (m .result .answer) → m .result .stream ≡ before m
 stream-kept m r = refused-leaves (m .learnt .0) r
 
+-- ---- sound streams stay sound
+
+pub begin-sound : (m : Made begin.ended begin-reads.Learnt) → sound (m .result) ≡ true
+begin-sound m = ap sound (m .learnt) ∙ begun-sound
+
+pub add-sound : (m : Add) → sound (before m) ≡ true → sound (m .result .stream) ≡ true
+add-sound m ok = go (numberOf (m .result .answer)) refl
+  where
+    go : (n : ℕ) → numberOf (m .result .answer) ≡ n → sound (m .result .stream) ≡ true
+    go zero e =
+        let p = add-passed (before m) (piece m) (zero-first (m .learnt .0) e) in
+        ap sound (zero-leaves (m .learnt .0) e) ∙ added-sound (before m) (shape m) ok (piece m) (p .within)
+    go (suc n) e = ap sound (stream-kept m (omega arith)) ∙ ok
+
 -- ---- no bytes
 
 -- done or refused, no bytes change nothing
 pub stream-nothing : (m : Add) → piece m ≡ [] → m .result .stream ≡ before m
-stream-nothing m none = go (first (addTests (before m) (piece m))) refl
+stream-nothing m none = go (numberOf (m .result .answer)) refl
   where
-    go : (n : ℕ) → first (addTests (before m) (piece m)) ≡ n → m .result .stream ≡ before m
+    go : (n : ℕ) → numberOf (m .result .answer) ≡ n → m .result .stream ≡ before m
     go zero e =
         let s = before m in
-        m .learnt .0 .leaves
-        ∙ ap₂ (λ (n : ℕ) (l : List ℕ). after n s (added s l)) e none
-        ∙ added-none s (shape m) (add-passed s (piece m) e .ok)
-    go (suc n) e = m .learnt .0 .leaves ∙ ap (λ (k : ℕ). after k (before m) (added (before m) (piece m))) e
+        zero-leaves (m .learnt .0) e
+        ∙ ap (added s) none
+        ∙ added-none s (shape m) (add-passed s (piece m) (zero-first (m .learnt .0) e) .ok)
+    go (suc n) e = stream-kept m (omega arith)
 
 -- ---- a piece, and then another
 
