@@ -8,4 +8,5 @@ pub mod ByRules
 pub mod Adding
 pub mod Filling
 pub mod Opening
+pub mod Closing
 pub mod Settled

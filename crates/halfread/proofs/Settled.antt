@@ -14,6 +14,8 @@ use Rattle.halfread.proofs.state.«open» as opn
 use Rattle.halfread.proofs.state.«open».Reads as open-reads
 use Rattle.halfread.proofs.state.blank as blank
 use Rattle.halfread.proofs.state.blank.Reads as blank-reads
+use Rattle.halfread.proofs.sound.below_width as below-width
+use Rattle.halfread.proofs.sound.below_width.Reads as below-width-reads
 use Rattle.halfread.proofs.sound.is_sound as is-sound
 use Rattle.halfread.proofs.sound.is_sound.Reads as is-sound-reads
 use Rattle.halfread.proofs.add.add as add
@@ -34,6 +36,9 @@ open-settled κs a r s x y = value-settled
 
 pub blank-settled : Settles blank.ended blank-reads.Learnt (λ κs r x. r)
 blank-settled κs a r s x y = value-settled
+
+pub below-width-settled : Settles below-width.ended below-width-reads.Learnt (λ κs r x. r)
+below-width-settled κs a r s x y = value-settled
 
 pub is-sound-settled : Settles is-sound.ended is-sound-reads.Learnt (λ κs r x. r)
 is-sound-settled κs a r s x y = value-settled

@@ -10,7 +10,7 @@ use crate::HalfRead;
 use crate::tail::tail_length;
 
 // Each word is below 2^w: of 64 bits every word is.
-fn below_width(words: [u64; 8], thin: bool) -> bool
+pub fn below_width(words: [u64; 8], thin: bool) -> bool
     ensures { λ r. ⌜ r ≡ allBelow (2 ^ word (widthOf thin)) words ⌝ }
 {
     if !thin {

@@ -1,4 +1,5 @@
--- A message is finished from its tail's whole blocks and its rest: laws of `absorbed` and `finished`. Main: `finished-split`.
+-- A message is finished from its tail's whole blocks and its rest: laws of `absorbed` and `finished`. Main: `finished-after` and
+-- `finished-split`.
 use Prim.Native.Nat.{ℕ, _+_, _-_, _*_, _/_, _%_, _<_}
 use mathlib.Core.Bool.{Bool}
 use mathlib.Core.List.{List, _++_, append-assoc}
@@ -9,17 +10,13 @@ use lib.ListN.{length, take, drop, length-append, length-drop, take-append-drop}
 use lib.Seq.{length-take-le, take-all}
 use Rattle.fips.specs.Words.{Width, blockBytes}
 use Rattle.fips.specs.Padding.{zeros}
-use Rattle.fips.specs.Constants.{chain}
-use Rattle.fips.specs.code.ByteForm.{parseBytes}
 use Rattle.fips.specs.Editions.{width}
 use Rattle.fips.proofs.Editions.{width-some}
 use Rattle.fips.proofs.Padding.{zeros-period}
 use Rattle.fips.specs.Sizes.{isNarrow, widthOf}
-use Rattle.sha2.specs.code.Hashing.{fit, absorbed, lastLength, lastBytes, finished}
-use Rattle.blockrule.proofs.Parse.{parse-rest, absorb-append}
+use Rattle.sha2.specs.code.Hashing.{absorbed, lastLength, lastBytes, finished}
 use Rattle.fips.proofs.Sizes.{width-of}
-use Rattle.sha2.proofs.Widths.{fit-same}
-use Rattle.sha2.proofs.Absorbed.{absorbed-below}
+use Rattle.sha2.proofs.Absorbed.{absorbed-append, absorbed-rest}
 
 -- finishing absorbs the last bytes
 pub finished-absorbed : (e : ℕ) (H : List ℕ) (c : ℕ) (tail : List ℕ) (x b : ℕ) →
@@ -36,19 +33,24 @@ last-after p c k a t x b e =
     ap (zeros (p .bytes)) (length-append a t ∙ ap (λ (n : ℕ). n + length t) e) ∙ zeros-period (p .bytes) k (length t) in
     rw same (simp append-assoc)
 
+-- whole blocks absorbed before finishing are as many bytes in front of the tail
+pub finished-after : (e : ℕ) (H : List ℕ) (c k : ℕ) (a t : List ℕ) (x b : ℕ) → length a ≡ k * blockBytes (width e) →
+    finished e (absorbed e H a) c t x b ≡ finished e H c (a ++ t) x b
+finished-after e H c k a t x b whole =
+    let L = lastBytes (width e) c t x (b % 8) in
+    finished-absorbed e (absorbed e H a) c t x b
+    ∙ sym (absorbed-append e H k a L (sym whole))
+    ∙ ap (absorbed e H) (sym (last-after (width e) c k a t x (b % 8) whole))
+    ∙ sym (finished-absorbed e H c (a ++ t) x b)
+
 -- the tail's whole blocks, absorbed, and then the last bytes of its rest
 pub finished-split : (e : ℕ) (H : List ℕ) (c k : ℕ) (a t : List ℕ) (x b : ℕ) →
     length a ≡ k * blockBytes (width e) → length t < blockBytes (width e) →
     absorbed e (absorbed e H (a ++ t)) (lastBytes (width e) c t x (b % 8)) ≡ finished e H c (a ++ t) x b
-unfolding absorbed finished
 finished-split e H c k a t x b whole rest =
-    let p = width e in
-    let L = lastBytes p c t x (b % 8) in
-    let first : chain p (fit p H) (parseBytes p (a ++ t)) ≡ chain p (fit p H) (parseBytes p a) =
-    ap (chain p (fit p H)) (parse-rest p k a t (sym whole) rest) in
-    ap (λ (W : List ℕ). chain p W (parseBytes p L)) (fit-same p (absorbed e H (a ++ t)) (absorbed-below e H (a ++ t)) ∙ first)
-    ∙ sym (absorb-append p k (fit p H) a L (sym whole))
-    ∙ ap (λ (bytes : List ℕ). chain p (fit p H) (parseBytes p bytes)) (sym (last-after p c k a t x (b % 8) whole))
+    ap (λ (W : List ℕ). absorbed e W (lastBytes (width e) c t x (b % 8))) (absorbed-rest e H k a t (sym whole) rest)
+    ∙ sym (finished-absorbed e (absorbed e H a) c t x b)
+    ∙ finished-after e H c k a t x b whole
 
 -- a tail is cut at its last whole block
 pub cut : (n : ℕ) (tail : List ℕ) → length (take (length tail - length tail % n) tail) ≡ length tail / n * n

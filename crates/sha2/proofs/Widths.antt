@@ -1,12 +1,12 @@
 -- An edition's width, by whether its words have 32 bits; and words taken to a width: laws of `isNarrow`, `widthOf` and `fit`.
 use Prim.Native.Nat.{ℕ, zero, suc, _%_, _^_, _<_}
-use mathlib.Core.List.{List, [], _∷_, _++_, map, map-append}
+use mathlib.Core.List.{List, [], _∷_, _++_}
 use mathlib.Core.Path.{_≡_, refl, ap, ap₂, _∙_}
 use native.Mathlib.Nat.{mod-eq-of-lt, mod-lt}
 use lib.ListN.{length, take, getD, length-map}
 use lib.Pow.{pow-pos}
-use lib.Seq.{take-suc}
 use Rattle.slices.specs.Below.{Below}
+use Rattle.slices.proofs.Fill.{map-more}
 use Rattle.fips.specs.Words.{Width, word}
 use Rattle.sha2.specs.code.Hashing.{fit}
 
@@ -31,6 +31,4 @@ fit-below p (x ∷ H) (suc i) = fit-below p H i
 pub fit-more : (p : Width) (H : List ℕ) (t : ℕ) → t < length H →
     fit p (take (suc t) H) ≡ fit p (take t H) ++ (getD H t 0 % 2 ^ word p ∷ [])
 unfolding fit
-fit-more p H t h =
-    let f : ℕ → ℕ = λ x. x % 2 ^ word p in
-    ap (map f) (take-suc H t 0 h) ∙ map-append f (take t H) (getD H t 0 ∷ [])
+fit-more p H t h = map-more (λ x. x % 2 ^ word p) H t h

@@ -1,12 +1,13 @@
 -- An array that a loop fills from the front: what stands before t is the list of t that belongs there.
--- Main statements: `fill-more`, one store more, and `fill-all`, all places filled.
+-- Main statements: `fill-more`, one store more, and `fill-all`, all places filled. `map-more`: a list of which each element is changed,
+-- one more of them.
 use Prim.Native.Nat.{ℕ, suc, _+_, _≤_, _<_}
-use mathlib.Core.List.{List, [], _∷_, _++_}
-use mathlib.Core.Path.{_≡_, _∙_}
+use mathlib.Core.List.{List, [], _∷_, _++_, map, map-append}
+use mathlib.Core.Path.{_≡_, ap, _∙_}
 use native.Mathlib.Numerals.{add-one}
 use native.Mathlib.Omega.{arith}
-use lib.ListN.{length, set, take, length-set}
-use lib.Seq.{take-suc-set, take-all}
+use lib.ListN.{length, getD, set, take, length-set}
+use lib.Seq.{take-suc, take-suc-set, take-all}
 
 -- w has `size` places, of which the first t, at most `last`, hold W t
 pub record Filled (size last : ℕ) (W : ℕ → List ℕ) (w : List ℕ) (t : ℕ) : Type 0 where
@@ -33,3 +34,6 @@ module _ {size last : ℕ} {W : ℕ → List ℕ} {w : List ℕ} {t : ℕ} where
 
 pub fill-all : {size : ℕ} {W : ℕ → List ℕ} {w : List ℕ} {t : ℕ} → size ≤ t → Filled size size W w t → w ≡ W size
 fill-all {size} {W} {w} h f = rw (take-all size w (omega arith)) at (fill-front h f)
+
+pub map-more : (f : ℕ → ℕ) (xs : List ℕ) (t : ℕ) → t < length xs → map f (take (suc t) xs) ≡ map f (take t xs) ++ (f (getD xs t 0) ∷ [])
+map-more f xs t h = ap (map f) (take-suc xs t 0 h) ∙ map-append f (take t xs) (getD xs t 0 ∷ [])

@@ -155,27 +155,28 @@ pub same-lengths : (xs ys : List ℕ) → (length xs ≡ length ys → ⊥) → 
 same-lengths xs ys h = same-apart xs ys (λ e. h (ap length e))
 
 -- the loop: what is left from i of both decides
-pub record Compared (xs ys : List ℕ) (i : ℕ) : Type 0 where
+pub record Compared (xs ys : List ℕ) (found : Bool) (i : ℕ) : Type 0 where
   pub within : i ≤ length xs
   pub long : length xs ≡ length ys
-  pub left : same xs ys ≡ same (drop i xs) (drop i ys)
+  pub left : same xs ys ≡ (found && same (drop i xs) (drop i ys))
 
 module _ (xs ys : List ℕ) where
-  pub compared-none : length xs ≡ length ys → Compared xs ys 0
+  pub compared-none : length xs ≡ length ys → Compared xs ys true 0
   compared-none e = record { within = omega arith; long = e; left = refl }
 
-  pub compared-more : (i : ℕ) → i < length xs → getD xs i 0 ≡ getD ys i 0 → Compared xs ys i → Compared xs ys (suc i)
+  pub compared-more : (b : Bool) (i : ℕ) → i < length xs → Compared xs ys b i → Compared xs ys (b && eqb (getD xs i 0) (getD ys i 0)) (suc i)
   unfolding same
-  compared-more i h e c =
+  compared-more b i h c =
       record {
         within = h;
         long = c .long;
-        left = c .left ∙ rw (drop-cons xs i 0 h, drop-cons ys i 0 (omega arith), eq-eqb (getD xs i 0) (getD ys i 0) e);
+        left =
+            c .left
+            ∙ rw (drop-cons xs i 0 h, drop-cons ys i 0 (omega arith))
+            (and-cond b (eqb (getD xs i 0) (getD ys i 0)) (same (drop (suc i) xs) (drop (suc i) ys)));
       }
 
-  pub compared-stop : (i : ℕ) → (getD xs i 0 ≡ getD ys i 0 → ⊥) → false ≡ same xs ys
-  compared-stop i e = sym (same-apart xs ys (λ q. e (ap (λ (l : List ℕ). getD l i 0) q)))
-
-  pub compared-all : (i : ℕ) → length xs ≤ i → Compared xs ys i → true ≡ same xs ys
+  pub compared-all : (b : Bool) (i : ℕ) → length xs ≤ i → Compared xs ys b i → b ≡ same xs ys
   unfolding same
-  compared-all i h c = sym (c .left ∙ rw (drop-of-length-le xs {i = i} h, drop-of-length-le ys {i = i} (omega arith)))
+  compared-all b i h c =
+      sym (c .left ∙ rw (drop-of-length-le xs {i = i} h, drop-of-length-le ys {i = i} (omega arith)) (and-true b))

@@ -1,4 +1,5 @@
-// Two slices compared: they are the same where they have the same length and the same elements.
+// Two slices compared: they are the same where they have the same length and the same elements. Of the same length, all are looked at,
+// also behind one that differs.
 ghost use mathlib.Core.Path.{_≡_};
 ghost use Rattle.slices.specs.Tests.{same};
 
@@ -8,14 +9,13 @@ pub fn same_bytes(a: &[u8], b: &[u8]) -> bool
     if a.len() != b.len() {
         return false;
     }
+    let mut same = true;
     let mut i = 0;
     while i < a.len() {
-        if a[i] != b[i] {
-            return false;
-        }
+        same = same & (a[i] == b[i]);
         i += 1;
     }
-    true
+    same
 }
 
 pub fn same_words(a: &[u64], b: &[u64]) -> bool
@@ -24,12 +24,11 @@ pub fn same_words(a: &[u64], b: &[u64]) -> bool
     if a.len() != b.len() {
         return false;
     }
+    let mut same = true;
     let mut i = 0;
     while i < a.len() {
-        if a[i] != b[i] {
-            return false;
-        }
+        same = same & (a[i] == b[i]);
         i += 1;
     }
-    true
+    same
 }

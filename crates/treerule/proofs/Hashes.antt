@@ -4,13 +4,9 @@ use mathlib.Core.List.{List, _∷_, _++_}
 use mathlib.Core.Path.{_≡_, refl, _∙_}
 use lib.ListN.{length}
 use Rattle.slices.specs.Below.{Bytes}
-use Rattle.slices.proofs.Below.{below-take}
-use Rattle.bigendian.specs.Words.{fromWords}
-use Rattle.bigendian.proofs.Words.{fromWords-bytes}
 use Rattle.fips.specs.Message.{message}
-use Rattle.fips.specs.Constants.{hashFrom}
-use Rattle.fips.specs.Editions.{edition, editions, width, digestBytes, start, digest}
-use Rattle.fips.proofs.Digest.{length-digest}
+use Rattle.fips.specs.Editions.{edition, editions, digestBytes}
+use Rattle.fips.proofs.Digest.{length-digest, bytes-digest}
 use Rattle.treerule.specs.Root.{nodeEdition, nodeBytes, sha256, leaf, parent}
 
 pub node-size : digestBytes nodeEdition ≡ nodeBytes
@@ -22,11 +18,8 @@ unfolding sha256
 length-sha256 bytes = length-digest nodeEdition _ ∙ node-size
 
 pub bytes-sha256 : (bytes : List ℕ) → Bytes (sha256 bytes)
-unfolding sha256 digest
-bytes-sha256 bytes =
-    let w = width nodeEdition in
-    let words = hashFrom w (start nodeEdition) (message bytes 0 0) in
-    below-take (digestBytes nodeEdition) (fromWords (w .bytes) words) (fromWords-bytes (w .bytes) words)
+unfolding sha256
+bytes-sha256 bytes = bytes-digest nodeEdition (message bytes 0 0)
 
 pub length-leaf : (chunk : List ℕ) → length (leaf chunk) ≡ nodeBytes
 unfolding leaf

@@ -1,0 +1,7 @@
+-- Laws of keyed hashes; each function's folder cites them.
+pub mod Soundness
+pub mod Hashing
+pub mod Keys
+pub mod Adding
+pub mod Judging
+pub mod Settled
