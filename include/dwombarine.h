@@ -1,4 +1,4 @@
-/* Dwombarine: SHA-2 at once, half-read messages in a table of bays, chunk trees, whole and over a stream, and digest lists.
+/* Dwombarine: SHA-2 at once, half-read messages in a table of bays, HMAC, chunk trees, whole and over a stream, and digest lists.
  *
  * A message in pieces, saved halfway and finished from its record in another bay, as after a restart, or on another machine. Each call here
  * answers DW_DONE; a program asks whether it did.
@@ -21,9 +21,9 @@
  *
  * Memory: the caller owns all of it and lends it for the length of the call. Nothing is allocated, and no pointer is kept. A pointer comes
  * with its count of elements; what a call writes overlaps nothing else that is lent to it. A refused call (not 0) writes nothing to a
- * table, a stream, an output or a list's buffer; ask and lookup then set their two values to 0. Digests, records, roots and lists are
- * written at the front of the output, and the bytes behind them stay as they were. A table and a stream are aligned as uint64_t is, and so
- * are the two values; bytes need no alignment.
+ * table, a stream, a keyed hash, an output or a list's buffer; ask and lookup then set their two values to 0. Digests, tags, records, roots
+ * and lists are written at the front of the output, and the bytes behind them stay as they were. A table, a stream and a keyed hash are
+ * aligned as uint64_t is, and so are the two values; bytes need no alignment.
  *
  * Null: no pointer may be null, not even that of an empty buffer. Where the count is 0, pass the address of anything.
  *
@@ -32,17 +32,18 @@
  * dw_drop 160, dw_list_start 32 and dw_lay_out 32: measured on x86-64 and on Arm, the larger of both. A thread with a small stack has to
  * have as much to spare; three macros below have it in round numbers.
  *
- * Threads: nothing is kept between calls but what stands in a table, in a stream, or in a buffer with a list. Calls on different tables or
- * streams, and calls on none, may run at once, each with outputs of its own, and a buffer in which a list is written is such an output; on
- * one table only dw_ask and dw_save may run beside each other, and on one stream only dw_stream_root beside itself. None may read what
- * another writes: no dw_judge beside a dw_list_put on one buffer.
+ * Threads: nothing is kept between calls but what stands in a table, in a stream, in a keyed hash, or in a buffer with a list. Calls on
+ * different tables, streams or keyed hashes, and calls on none, may run at once, each with outputs of its own, and a buffer in which a list
+ * is written is such an output; on one table only dw_ask and dw_save may run beside each other, on one stream only dw_stream_root beside
+ * itself, and on one keyed hash only dw_keyed_tag and dw_keyed_check. None may read what another writes: no dw_judge beside a dw_list_put
+ * on one buffer.
  *
  * C++: include this as it is; the names are extern "C", and nothing throws. Answers are uint64_t and compare with the names of the enums as
  * they are; to make an enum of one takes a cast. An edition of the enum is passed as it is. data() of an empty std::vector, std::span or
  * std::string_view may be null: pass the address of something else then.
  *
- * Machines: a record and a list mean the same on every machine. A table and a stream belong to the machine they were made on: their words
- * are in that machine's own byte order. size_t must have 64 bits, which is checked below.
+ * Machines: a record, a list and a tag mean the same on every machine. A table, a stream and a keyed hash belong to the machine they were
+ * made on: their words are in that machine's own byte order. size_t must have 64 bits, which is checked below.
  *
  * Versions: until 1.0 the second number of DW_VERSION grows whenever a signature, a number or a size of this header changes, or what a call
  * makes of the same bytes, and the name by which the shared library is loaded with it. So a program that was compiled with another header
@@ -50,7 +51,11 @@
  *
  * Linking: the library needs memcpy and memset of the C library, and nothing else.
  *
- * Proved: the seventeen calls, down to every byte that they write. Not proved, but tested: this header and dw_answer_text, which are C.
+ * Proved: the twenty-three calls, down to every byte that they write. Not proved, but tested: this header and dw_answer_text, which are C.
+ *
+ * Not promised: how long a call takes, which may tell of what it is lent, keys and tags too; and that anything is wiped. What a call had of
+ * a key may stand in its stack afterwards, and a keyed hash is as secret as its key: whoever reads its words makes tags with it. The caller
+ * clears what he lends.
  */
 #ifndef DWOMBARINE_H
 #define DWOMBARINE_H
@@ -62,7 +67,7 @@
 extern "C" {
 #endif
 
-#define DW_VERSION "0.4.0"
+#define DW_VERSION "0.5.0"
 
 /* the library takes every count as 64 bits: where size_t has not so many, this does not compile */
 typedef char dw_size_t_has_64_bits[sizeof(size_t) == 8 ? 1 : -1];
@@ -75,7 +80,7 @@ enum dw_answer {
     DW_BAY_TAKEN = 3,       /* a message is in the bay */
     DW_BAY_EMPTY = 4,       /* none is */
     DW_NO_SUCH_EDITION = 5, /* not one of the six below */
-    DW_NOT_SOUND = 6,       /* the bay's words are damaged: dw_drop empties it; or the stream's are, or too few: it is begun anew */
+    DW_NOT_SOUND = 6,       /* the bay's words are damaged: dw_drop empties it; a stream's or a keyed hash's are, or too few: begin anew */
     DW_TOO_LONG = 7,        /* would pass a length limit */
     DW_BAD_CLOSING = 8,     /* more than 7 closing bits, or a set bit below them */
     DW_SHORT_OUTPUT = 9,    /* the result does not fit */
@@ -83,7 +88,8 @@ enum dw_answer {
     DW_BAD_LAYOUT = 11,     /* not 1 to 64 bays, or too few words for them */
     DW_NOT_A_LIST = 12,     /* not a digest list */
     DW_NOT_LISTED = 13,     /* the list has no such name */
-    DW_DIGEST_DIFFERS = 14, /* the list has another digest for the name; dw_list_put: the digest has not the size of the list's edition */
+    DW_DIGEST_DIFFERS = 14, /* the list has another digest for the name; dw_list_put: the digest has not the size of the list's edition; the
+                               tag is another */
     DW_FORBIDDEN_NAME = 15, /* no list may have the name */
     DW_NAME_TAKEN = 16,     /* the list has the name already */
     DW_LIST_FULL = 17       /* the list has 256 entries */
@@ -120,6 +126,8 @@ enum dw_edition {
 /* words of a stream; words behind them are the caller's and never change; and the longest map that a stream takes, 2^32 chunks */
 #define DW_STREAM_WORDS 258
 #define DW_LONGEST_STREAM ((uint64_t)1 << 42)
+/* words of a keyed hash; words behind them are the caller's and never change */
+#define DW_KEYED_WORDS 34
 /* bytes of the list that a buffer has at its front, a size_t: a list tells its own length in its bytes 12 to 15, most significant first. Of
  * bytes that are no list it reads whatever stands there; a buffer of fewer than 16 bytes has no such bytes, and no list. So it is for a
  * buffer on which a start or a put was done, or to be compared with the buffer's bytes first: of other bytes it may say more than there
@@ -186,6 +194,37 @@ uint64_t dw_stream_add(uint64_t *stream, size_t words, const uint8_t *piece, siz
 /* For the root of all bytes taken so far: writes the 32 bytes that dw_tree writes of them, where it takes so many. The stream stays as it
  * is, and may go on. 6, 9. */
 uint64_t dw_stream_root(const uint64_t *stream, size_t words, uint8_t *out, size_t out_n);
+
+/* For a whole message and a key at hand: writes the tag, which is HMAC by FIPS 198-1, of DW_DIGEST_BYTES(edition) bytes. The key has any
+ * length, 0 too, up to 2^40 bytes; a key longer than the edition's block, of 64 bytes in SHA-224 and SHA-256 and 128 in the others, is
+ * hashed first. The message has at most 2^40 bytes less a block. 5, 7, 9. */
+uint64_t dw_tag(uint64_t edition, const uint8_t *key, size_t key_n, const uint8_t *message, size_t n, uint8_t *out, size_t out_n);
+
+/* To hold a tag against a message: is it the whole tag? A front of it, or any other length, is 14. 5, 7, 14. */
+uint64_t dw_check_tag(uint64_t edition, const uint8_t *key, size_t key_n, const uint8_t *message, size_t n, const uint8_t *tag, size_t tag_n);
+
+/* To begin the tag of a message that comes in pieces, over memory that held anything: a keyed hash that has taken the key. The key is not
+ * needed any more. 5, 7, and 9 for fewer words than DW_KEYED_WORDS. With `uint64_t keyed[DW_KEYED_WORDS]` a tag is made by
+ *
+ *    dw_keyed_start(keyed, DW_KEYED_WORDS, DW_SHA256, key, sizeof key);
+ *    while ((n = fread(piece, 1, sizeof piece, status)) > 0)
+ *        dw_keyed_add(keyed, DW_KEYED_WORDS, piece, n);
+ *    dw_keyed_tag(keyed, DW_KEYED_WORDS, tag, DW_DIGEST_BYTES(DW_SHA256));
+ *
+ * Words 0 to 25 are those of a taken bay: the edition, the bytes taken, of which the first block is the key's, eight chaining words, and
+ * the bytes after the last whole block, most significant first, with zeros behind them. Words 26 to 33 are the outer hash's chaining words
+ * after its block of the key. Sound are words that keep the rules of a taken bay, with a block or more taken, and outer words below 2^32 in
+ * SHA-224 and SHA-256; whether a key leads to them is not judged. To put a keyed hash aside is to copy its words. */
+uint64_t dw_keyed_start(uint64_t *keyed, size_t words, uint64_t edition, const uint8_t *key, size_t key_n);
+
+/* For each piece of the message, of any length: takes n bytes more, 2^40 in all with the key's block. 6, 7. */
+uint64_t dw_keyed_add(uint64_t *keyed, size_t words, const uint8_t *piece, size_t n);
+
+/* For the tag of all bytes taken so far. The keyed hash stays as it is, and may go on. 6, 9. */
+uint64_t dw_keyed_tag(const uint64_t *keyed, size_t words, uint8_t *out, size_t out_n);
+
+/* To hold a tag against all bytes taken so far, as dw_check_tag does. The keyed hash stays as it is. 6, 14. */
+uint64_t dw_keyed_check(const uint64_t *keyed, size_t words, const uint8_t *tag, size_t tag_n);
 
 /* To hold a digest against a list: is it the one that the list has for the name? Each call reads the whole list again, to know that it is
  * one. 12, 13, 14. */

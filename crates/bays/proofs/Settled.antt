@@ -26,6 +26,10 @@ use Rattle.bays.proofs.in_place.put_at as put-at
 use Rattle.bays.proofs.in_place.put_at.Reads as put-at-reads
 use Rattle.bays.proofs.in_place.clear_at as clear-at
 use Rattle.bays.proofs.in_place.clear_at.Reads as clear-at-reads
+use Rattle.bays.proofs.lent.half_in as half-in
+use Rattle.bays.proofs.lent.half_in.Reads as half-in-reads
+use Rattle.bays.proofs.lent.words_of as words-of
+use Rattle.bays.proofs.lent.words_of.Reads as words-of-reads
 
 -- an answer and a half-read message as one struct
 abbrev whole : Answer × HalfRead → Held
@@ -54,3 +58,9 @@ put-at-settled κs a r s x y = value-settled
 
 pub clear-at-settled : Settles clear-at.ended clear-at-reads.Learnt (λ κs r x. now (x .0))
 clear-at-settled κs a r s x y = value-settled
+
+pub half-in-settled : Settles half-in.ended half-in-reads.Learnt (λ κs r x. r)
+half-in-settled κs a r s x y = value-settled
+
+pub words-of-settled : Settles words-of.ended words-of-reads.Learnt (λ κs r x. r)
+words-of-settled κs a r s x y = value-settled

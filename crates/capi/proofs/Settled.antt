@@ -35,6 +35,18 @@ use Rattle.capi.proofs.dw_stream_add as dw-stream-add
 use Rattle.capi.proofs.dw_stream_add.Reads as dw-stream-add-reads
 use Rattle.capi.proofs.dw_stream_root as dw-stream-root
 use Rattle.capi.proofs.dw_stream_root.Reads as dw-stream-root-reads
+use Rattle.capi.proofs.dw_tag as dw-tag
+use Rattle.capi.proofs.dw_tag.Reads as dw-tag-reads
+use Rattle.capi.proofs.dw_check_tag as dw-check-tag
+use Rattle.capi.proofs.dw_check_tag.Reads as dw-check-tag-reads
+use Rattle.capi.proofs.dw_keyed_start as dw-keyed-start
+use Rattle.capi.proofs.dw_keyed_start.Reads as dw-keyed-start-reads
+use Rattle.capi.proofs.dw_keyed_add as dw-keyed-add
+use Rattle.capi.proofs.dw_keyed_add.Reads as dw-keyed-add-reads
+use Rattle.capi.proofs.dw_keyed_tag as dw-keyed-tag
+use Rattle.capi.proofs.dw_keyed_tag.Reads as dw-keyed-tag-reads
+use Rattle.capi.proofs.dw_keyed_check as dw-keyed-check
+use Rattle.capi.proofs.dw_keyed_check.Reads as dw-keyed-check-reads
 use Rattle.capi.proofs.dw_judge as dw-judge
 use Rattle.capi.proofs.dw_judge.Reads as dw-judge-reads
 use Rattle.capi.proofs.dw_lookup as dw-lookup
@@ -83,6 +95,24 @@ dw-stream-add-settled κs a r s x y j k = number-both (j .0) (k .0)
 
 pub dw-stream-root-settled : Settles {A = ℕ × List ℕ} dw-stream-root.ended dw-stream-root-reads.Learnt (λ κs r x. (r, now (x .1 .0)))
 dw-stream-root-settled κs a r s x y = number-both
+
+pub dw-tag-settled : Settles {A = ℕ × List ℕ} dw-tag.ended dw-tag-reads.Learnt (λ κs r x. (r, now (x .1 .1 .1 .0)))
+dw-tag-settled κs a r s x y = number-both
+
+pub dw-check-tag-settled : Settles dw-check-tag.ended dw-check-tag-reads.Learnt (λ κs r x. r)
+dw-check-tag-settled κs a r s x y = value-settled
+
+pub dw-keyed-start-settled : Settles {A = ℕ × List ℕ} dw-keyed-start.ended dw-keyed-start-reads.Learnt (λ κs r x. (r, now (x .0)))
+dw-keyed-start-settled κs a r s x y j k = number-both (j .0) (k .0)
+
+pub dw-keyed-add-settled : Settles {A = ℕ × List ℕ} dw-keyed-add.ended dw-keyed-add-reads.Learnt (λ κs r x. (r, now (x .0)))
+dw-keyed-add-settled κs a r s x y j k = number-both (j .0) (k .0)
+
+pub dw-keyed-tag-settled : Settles {A = ℕ × List ℕ} dw-keyed-tag.ended dw-keyed-tag-reads.Learnt (λ κs r x. (r, now (x .1 .0)))
+dw-keyed-tag-settled κs a r s x y = number-both
+
+pub dw-keyed-check-settled : Settles dw-keyed-check.ended dw-keyed-check-reads.Learnt (λ κs r x. r)
+dw-keyed-check-settled κs a r s x y = value-settled
 
 pub dw-judge-settled : Settles dw-judge.ended dw-judge-reads.Learnt (λ κs r x. r)
 dw-judge-settled κs a r s x y = value-settled

@@ -4,6 +4,8 @@ ghost use mathlib.Core.List.{[]};
 ghost use mathlib.Core.Path.{_≡_};
 ghost use Rattle.answers.specs.Judged.{first};
 ghost use Rattle.calls.specs.Calls.{Call, told, Lends, Outcome, Asks};
+ghost use Rattle.keyed.specs.AtOnce.{Tags, checkTests as tagTests};
+ghost use Rattle.keyedwords.specs.Calls as keyedwords;
 ghost use Rattle.lists.specs.Calls.{spot, Finds, judgeTests};
 ghost use Rattle.sha2.specs.Hash.{Hashes};
 ghost use Rattle.streamwords.specs.Calls.{Begins, LendsPiece, Adds, Roots};
@@ -128,6 +130,51 @@ pub extern "C" fn dw_stream_root(stream: &[u64], out: &mut [u8]) -> u64
     ensures { λ r. ⌜ Roots (now (stream .entry)) (now (out .entry)) r (now (out .exit)) ⌝ }
 {
     answers::number(streamwords::root(stream, out))
+}
+
+#[no_mangle]
+pub extern "C" fn dw_tag(edition: u64, key: &[u8], message: &[u8], out: &mut [u8]) -> u64
+    ensures { λ r. ⌜ Tags edition (now (key .entry)) (now (message .entry)) (now (out .entry)) r (now (out .exit)) ⌝ }
+{
+    answers::number(keyed::at_once::tag(edition, key, message, out))
+}
+
+#[no_mangle]
+pub extern "C" fn dw_check_tag(edition: u64, key: &[u8], message: &[u8], tag: &[u8]) -> u64
+    ensures { λ r.
+        ⌜ r ≡ first (tagTests edition (now (key .entry)) (now (message .entry)) (now (tag .entry))) ⌝ }
+{
+    answers::number(keyed::at_once::check(edition, key, message, tag))
+}
+
+#[no_mangle]
+pub extern "C" fn dw_keyed_start(keyed: &mut [u64], edition: u64, key: &[u8]) -> u64
+    ensures { λ r. ⌜ keyedwords.Starts (now (keyed .entry)) edition (now (key .entry)) r (now (keyed .exit)) ⌝ }
+    ensures { λ _. ⌜ keyedwords.LendsKey (now (keyed .entry)) (now (key .entry)) ⌝ }
+{
+    answers::number(keyedwords::start(keyed, edition, key))
+}
+
+#[no_mangle]
+pub extern "C" fn dw_keyed_add(keyed: &mut [u64], piece: &[u8]) -> u64
+    ensures { λ r. ⌜ keyedwords.Adds (now (keyed .entry)) (now (piece .entry)) r (now (keyed .exit)) ⌝ }
+    ensures { λ _. ⌜ keyedwords.LendsPiece (now (keyed .entry)) (now (piece .entry)) ⌝ }
+{
+    answers::number(keyedwords::add(keyed, piece))
+}
+
+#[no_mangle]
+pub extern "C" fn dw_keyed_tag(keyed: &[u64], out: &mut [u8]) -> u64
+    ensures { λ r. ⌜ keyedwords.Ends (now (keyed .entry)) (now (out .entry)) r (now (out .exit)) ⌝ }
+{
+    answers::number(keyedwords::tag(keyed, out))
+}
+
+#[no_mangle]
+pub extern "C" fn dw_keyed_check(keyed: &[u64], tag: &[u8]) -> u64
+    ensures { λ r. ⌜ r ≡ first (keyedwords.checkTests (now (keyed .entry)) (now (tag .entry))) ⌝ }
+{
+    answers::number(keyedwords::check(keyed, tag))
 }
 
 #[no_mangle]

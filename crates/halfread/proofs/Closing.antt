@@ -1,6 +1,6 @@
 -- A message of bytes that was opened, added to and closed has the standard's digest: `closed-digest`. A whole block added to nothing
 -- leaves no tail: `given-block`.
-use Prim.Native.Nat.{ℕ, _+_, _*_, _/_, _<_}
+use Prim.Native.Nat.{ℕ, _*_, _/_, _<_}
 use mathlib.Core.List.{List, [], _++_, append-nil}
 use mathlib.Core.Path.{_≡_, refl, sym, ap, ap₂, _∙_}
 use native.Mathlib.Nat.{zero-mod, mod-lt}
@@ -18,7 +18,6 @@ use Rattle.sha2.specs.code.Hashing.{absorbed, finished, digestFrom}
 use Rattle.sha2.proofs.Absorbed.{absorbed-rest}
 use Rattle.sha2.proofs.AtOnce.{digest-at-once}
 use Rattle.sha2.proofs.Finished.{finished-after}
-use Rattle.halfread.specs.declared.HalfRead.{HalfRead}
 use Rattle.halfread.specs.State.{pending, padded, tailRoom}
 use Rattle.halfread.specs.Steps.{opened, waiting, added, closedDigest}
 use Rattle.halfread.proofs.Adding.{pending-added}

@@ -1,7 +1,7 @@
 -- The key as a block: `length-blockKey`, it has as many bytes as a block, and so have the two blocks made of it, `length-inner` and
 -- `length-outer`; they are bytes, `bytes-inner` and `bytes-outer`. `long-key` and `short-key`: which key is hashed. A tag is as
 -- long as a digest: `length-hmac`.
-use Prim.Native.Nat.{ℕ, zero, suc, _+_, _-_, _≤_, _<_}
+use Prim.Native.Nat.{ℕ, zero, suc, _-_, _≤_, _<_}
 use mathlib.Core.Bool.{Bool, true, false, cond}
 use mathlib.Core.List.{List, [], _∷_, _++_}
 use mathlib.Core.Path.{_≡_, refl, ap, _∙_}

@@ -1,19 +1,18 @@
 -- A keyed hash from its start on: `started-sound` and `started-shaped`; with pieces, `added-append`, `added-none`, `added-sound` and
 -- `added-shaped`; the tag's length, `length-tagOf`; and where a
 -- tag stands in a buffer, `front-tag`. A block alone keeps the limit: `block-short`.
-use Prim.Native.Nat.{ℕ, _+_, _^_, _<_, _≤_}
+use Prim.Native.Nat.{ℕ, _+_, _^_, _<_}
 use mathlib.Core.Bool.{true, false}
 use mathlib.Core.List.{List, [], _++_}
 use mathlib.Core.Path.{_≡_, refl, sym, ap, _∙_}
 use native.Mathlib.Omega.{arith}
 use lib.ListN.{length, take}
 use lib.Pow.{pow-mono}
-use Rattle.slices.specs.Below.{Below, Bytes}
+use Rattle.slices.specs.Below.{Bytes}
 use Rattle.slices.specs.Padded.{padded}
 use Rattle.slices.proofs.Below.{below-more}
 use Rattle.slices.proofs.Padded.{take-padded}
-use Rattle.fips.specs.Words.{word}
-use Rattle.fips.specs.Editions.{known, width, start, digestBytes}
+use Rattle.fips.specs.Editions.{known, start, digestBytes}
 use Rattle.fips.proofs.Editions.{digest-short}
 use Rattle.fips.proofs.Rules.{length-start}
 use Rattle.fips.proofs.Sizes.{known-small, bytes-within, block-within}
@@ -32,7 +31,7 @@ use Rattle.hmac.proofs.Blocks.{length-inner, bytes-inner}
 use Rattle.keyed.specs.declared.Keyed.{Keyed}
 use Rattle.keyed.specs.State.{tagRoom, sound, Shaped}
 use Rattle.keyed.specs.Steps.{started, added, outerDigest, tagOf}
-use Rattle.keyed.proofs.Soundness.{Sound, sound-has, has-sound}
+use Rattle.keyed.proofs.Soundness.{sound-has, has-sound}
 
 pub same-keyed : (a b : Keyed) → a .inner ≡ b .inner → a .outer ≡ b .outer → a ≡ b
 same-keyed a b i o = λ t. record { inner = i t; outer = o t }

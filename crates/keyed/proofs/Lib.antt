@@ -3,5 +3,6 @@ pub mod Soundness
 pub mod Hashing
 pub mod Keys
 pub mod Adding
+pub mod Messages
 pub mod Judging
 pub mod Settled

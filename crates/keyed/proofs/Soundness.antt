@@ -2,7 +2,7 @@
 -- so that where those are kept the inner message decides: `inner-decides`. `owned`: what every value has, whatever it holds.
 use Prim.Native.Nat.{ℕ, _^_, _≤_}
 use mathlib.Core.Bool.{Bool, true, false}
-use mathlib.Core.Path.{_≡_, refl, sym, ap, _∙_}
+use mathlib.Core.Path.{_≡_, refl, sym, _∙_}
 use mir.Syntax.{w8 as u8, w64 as u64}
 use mir.Val.{Fits}
 use lib.Dec.{leb}

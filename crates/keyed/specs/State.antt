@@ -22,7 +22,7 @@ unfoldable pub blank : Keyed
 blank = record { inner = half.blank; outer = replicate chainRoom 0 }
 
 module _ (k : Keyed) where
-  -- beside the rules of a taken bay: a block or more is taken, and the outer words are below 2^w; they need not be words that a key leads to
+  -- beside the rules of a taken bay: a block or more is taken, and the outer words are below 2^w; whether a key leads to them is not judged
   abbrev pub moreRules : List Bool
   moreRules = leb (blockOf (k .inner)) (k .inner .count) ∷ allBelow (2 ^ word (width (k .inner .edition))) (k .outer) ∷ []
 

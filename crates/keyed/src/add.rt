@@ -1,5 +1,4 @@
 // Adding a piece: SPEC, "Keyed digests". The piece goes to the inner message.
-ghost use mathlib.Core.Path.{_≡_};
 ghost use Rattle.answers.specs.Judged.{Judged};
 ghost use Rattle.answers.specs.Numbers.{numberOf};
 ghost use Rattle.slices.specs.Below.{Bytes};

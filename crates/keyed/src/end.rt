@@ -1,11 +1,10 @@
 // The tag of all that a keyed hash has taken, written or compared: SPEC, "Keyed digests". The keyed hash may go on.
 ghost use mathlib.Core.Path.{_≡_};
-ghost use mathlib.Core.Bool.{true};
 ghost use Rattle.answers.specs.Judged.{first, Judged};
 ghost use Rattle.answers.specs.Numbers.{numberOf};
 ghost use Rattle.slices.specs.AtFront.{atFront};
 ghost use Rattle.slices.specs.Padded.{padded};
-ghost use Rattle.keyed.specs.State.{tagRoom, sound, Shaped};
+ghost use Rattle.keyed.specs.State.{tagRoom, Shaped};
 ghost use Rattle.keyed.specs.Steps.{tagOf, tagTests, checkTests};
 use crate::Keyed;
 use crate::outer::TAG;

@@ -1,8 +1,6 @@
 // The outer hash: FIPS 198-1 §4, steps 8 and 9.
 ghost use mathlib.Core.Path.{_≡_};
-ghost use lib.ListN.{length};
 ghost use Rattle.slices.specs.Padded.{padded};
-ghost use Rattle.fips.specs.Editions.{digestBytes};
 ghost use Rattle.keyed.specs.State.{tagRoom};
 ghost use Rattle.keyed.specs.Steps.{outerDigest};
 ghost use Rattle.sha2.specs.code.Hashing.{digestFrom};

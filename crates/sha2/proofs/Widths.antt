@@ -1,7 +1,7 @@
 -- An edition's width, by whether its words have 32 bits; and words taken to a width: laws of `isNarrow`, `widthOf` and `fit`.
 use Prim.Native.Nat.{ℕ, zero, suc, _%_, _^_, _<_}
 use mathlib.Core.List.{List, [], _∷_, _++_}
-use mathlib.Core.Path.{_≡_, refl, ap, ap₂, _∙_}
+use mathlib.Core.Path.{_≡_, refl, ap₂}
 use native.Mathlib.Nat.{mod-eq-of-lt, mod-lt}
 use lib.ListN.{length, take, getD, length-map}
 use lib.Pow.{pow-pos}

@@ -164,7 +164,8 @@ module _ (xs ys : List ℕ) where
   pub compared-none : length xs ≡ length ys → Compared xs ys true 0
   compared-none e = record { within = omega arith; long = e; left = refl }
 
-  pub compared-more : (b : Bool) (i : ℕ) → i < length xs → Compared xs ys b i → Compared xs ys (b && eqb (getD xs i 0) (getD ys i 0)) (suc i)
+  pub compared-more : (b : Bool) (i : ℕ) → i < length xs → Compared xs ys b i →
+      Compared xs ys (b && eqb (getD xs i 0) (getD ys i 0)) (suc i)
   unfolding same
   compared-more b i h c =
       record {

@@ -1,5 +1,5 @@
 -- `keyed::add::add` meets its contract: where the other rules are kept, the inner message decides. Assumes nothing.
-use mathlib.Core.Path.{_≡_, refl, sym, _∙_}
+use mathlib.Core.Path.{refl, sym, _∙_}
 use borrow.Author.Needs.{needs}
 use borrow.Author.Tests.{not-true, not-false}
 use Rattle.answers.specs.Judged.{first}
@@ -24,7 +24,8 @@ returns : tie.Need-returns
 unfolding addTests first
 returns c =
     let m = c .before in
-    (refused (rw (more-broken (m .before .before .args .keyed) (sym (m .keeps-more .ensures) ∙ not-true _ (c .if1 .taken)))) tt refl, lends m)
+    let broken = more-broken (m .before .before .args .keyed) (sym (m .keeps-more .ensures) ∙ not-true _ (c .if1 .taken)) in
+    (refused (rw broken) tt refl, lends m)
 
 returns-2 : tie.Need-returns-2
 returns-2 c =

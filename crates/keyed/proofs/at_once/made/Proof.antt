@@ -1,11 +1,9 @@
 -- `keyed::at_once::made` meets its contract: the inner hash over the message where it lies, and the outer one. Assumes nothing.
 use Prim.Native.Nat.{ℕ, _+_}
-use mathlib.Core.List.{List}
-use mathlib.Core.Path.{_≡_, sym, ap, ap₂, _∙_}
+use mathlib.Core.Path.{ap, _∙_}
 use native.Mathlib.Omega.{arith}
 use lib.ListN.{length}
 use borrow.Author.Needs.{needs}
-use Rattle.slices.specs.Below.{Bytes}
 use Rattle.slices.specs.Padded.{padded}
 use Rattle.sha2.proofs.Limits.{length-fits}
 use Rattle.hmac.specs.Hmac.{B}
@@ -18,7 +16,8 @@ use Rattle.keyed.proofs.at_once.made.Tie as tie
 add-count : tie.Need-add-count
 add-count c =
     let s = c .before .before .before .before .before .before in
-    record { fits = omega (arith, length-fits (s .args .edition) (B (s .args .edition)) (length (s .args .message .now)) (s .pre), c .block-bytes .ensures) }
+    let e = s .args .edition in
+    record { fits = omega (arith, length-fits e (B e) (length (s .args .message .now)) (s .pre), c .block-bytes .ensures) }
 
 returns : tie.Need-returns
 returns c =

@@ -1,6 +1,5 @@
 -- `keyed::end::check` meets its contract: a tag is the same as the one that is made, or it differs. Assumes nothing.
-use mathlib.Core.Bool.{Bool, true}
-use mathlib.Core.List.{List}
+use mathlib.Core.Bool.{true}
 use mathlib.Core.Path.{_≡_, sym, ap, _∙_}
 use native.Mathlib.Omega.{arith}
 use lib.ListN.{length}
@@ -49,7 +48,9 @@ compared c =
     let d = t .before in
     let s = d .before .before in
     let a = s .before .before .args in
-    c .same-bytes .ensures ∙ ap (same (a .tag .now)) (front-tag (a .keyed .inner .edition) (length-tagOf (a .keyed) (shape s)) (d .digest-bytes .ensures) (t .ended .ensures))
+    let long = length-tagOf (a .keyed) (shape s) in
+    c .same-bytes .ensures
+    ∙ ap (same (a .tag .now)) (front-tag (a .keyed .inner .edition) long (d .digest-bytes .ensures) (t .ended .ensures))
 
 returns-2 : tie.Need-returns-2
 unfolding checkTests first

@@ -57,10 +57,12 @@ returns-3 c =
     let e = t .before in
     let d = e .before in
     let s = d .before .before in
-    let a = s .before .before .args in (
+    let a = s .before .before .args in
+    let long = length-tagOf (a .keyed) (shape s) in (
       done (rw (is-sound (d .before), ← d .digest-bytes .ensures, le-ltb _ _ (e .if2 .left)))
           (p .put-front .ensures
-          ∙ ap (λ (l : List ℕ). atFront l (a .out .now)) (front-tag (a .keyed .inner .edition) (length-tagOf (a .keyed) (shape s)) (d .digest-bytes .ensures) (t .ended .ensures))),
+          ∙ ap (λ (l : List ℕ). atFront l (a .out .now))
+          (front-tag (a .keyed .inner .edition) long (d .digest-bytes .ensures) (t .ended .ensures))),
       shape s,
     )
 

@@ -1,12 +1,11 @@
 -- `keyed::outer::tag_of` meets its contract: the digest that the words after the outer block and the inner digest make. Assumes nothing.
-use Prim.Native.Nat.{ℕ, _+_, _≤_}
+use Prim.Native.Nat.{ℕ, _+_}
 use mathlib.Core.List.{List}
 use mathlib.Core.Path.{_≡_, sym, ap, ap₂, _∙_}
 use native.Mathlib.Omega.{arith}
 use lib.ListN.{length, take}
 use lib.Seq.{length-take-le}
 use borrow.Author.Needs.{needs}
-use Rattle.fips.specs.Editions.{digestBytes}
 use Rattle.fips.proofs.Editions.{digest-short}
 use Rattle.fips.proofs.Sizes.{block-within}
 use Rattle.slices.specs.Padded.{padded}
@@ -50,7 +49,8 @@ returns c =
     c .digest-of2 .ensures
     ∙ ap (λ (w : List ℕ). padded tagRoom (digestFrom e w))
     (f .finish .ensures
-    ∙ ap₂ (λ (k : ℕ) (t : List ℕ). finished e (s .args .outer) k t 0 0) (ap₂ _+_ (b .block-bytes .ensures) (d .digest-bytes .ensures)) inner)
+    ∙ ap₂ (λ (k : ℕ) (t : List ℕ). finished e (s .args .outer) k t 0 0)
+    (ap₂ _+_ (b .block-bytes .ensures) (d .digest-bytes .ensures)) inner)
 
 pub tag-of-spec : {M : Type 1} → statement M
 tag-of-spec =

@@ -1,6 +1,4 @@
 -- `keyed::pads::block_key` meets its contract: a key longer than a block is hashed, and zeros stand behind. Assumes nothing.
-use mathlib.Core.Path.{_≡_, sym, ap, _∙_}
-use mathlib.Core.List.{List}
 use native.Mathlib.Omega.{arith}
 use borrow.Author.Needs.{needs}
 use Rattle.keyed.proofs.Keys.{long-padded, short-padded}

@@ -1,5 +1,5 @@
 -- `keyed::state::begun` meets its contract: the words after the key's two blocks. Assumes nothing.
-use mathlib.Core.Path.{_≡_, refl, sym, ap, _∙_}
+use mathlib.Core.Path.{refl, sym, ap, _∙_}
 use borrow.Author.Needs.{needs}
 use Rattle.halfread.specs.declared.HalfRead.{HalfRead}
 use Rattle.halfread.proofs.Closing.{given-block}

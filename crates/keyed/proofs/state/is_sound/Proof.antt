@@ -1,5 +1,5 @@
 -- `keyed::state::is_sound` meets its contract: the inner message, and then the other rules decide. Assumes nothing.
-use mathlib.Core.Path.{_≡_, sym, _∙_}
+use mathlib.Core.Path.{sym, _∙_}
 use borrow.Author.Needs.{needs}
 use borrow.Author.Tests.{not-true, not-false}
 use Rattle.keyed.proofs.Soundness.{inner-unsound, more-decides}

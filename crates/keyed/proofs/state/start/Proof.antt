@@ -1,5 +1,5 @@
 -- `keyed::state::start` meets its contract: each refusal by its test, and the keyed hash that the key begins. Assumes nothing.
-use mathlib.Core.Path.{_≡_, sym, _∙_}
+use mathlib.Core.Path.{sym, _∙_}
 use borrow.Author.Needs.{needs}
 use borrow.Author.Tests.{not-true, not-false}
 use Rattle.answers.specs.Judged.{first}

@@ -1,0 +1,3 @@
+-- Keyed hashes that calls have made, by value and in lent words.
+pub mod ByValue
+pub mod InC
