@@ -27,10 +27,12 @@
  *
  * Null: no pointer may be null, not even that of an empty buffer. Where the count is 0, pass the address of anything.
  *
- * Stack: dw_tree takes up to 36,784 bytes of it, dw_stream_add 11,440, dw_stream_root 7,840, dw_stream_begin 4,224, dw_close 2,816,
- * dw_hash 2,512, dw_add 2,352, dw_load 1,512, dw_save 1,280, dw_ask 1,144, dw_open 768, dw_judge 424, dw_list_put 408, dw_lookup 408,
- * dw_drop 160, dw_list_start 32 and dw_lay_out 32: measured on x86-64 and on Arm, the larger of both. A thread with a small stack has to
- * have as much to spare; three macros below have it in round numbers.
+ * Stack: dw_tree takes up to 36,784 bytes of it, dw_stream_add 11,440, dw_stream_root 7,840, dw_stream_begin 4,224, dw_check_tag 3,504,
+ * dw_tag 3,488, dw_keyed_add 3,504, dw_keyed_tag 3,424, dw_keyed_check 3,424, dw_keyed_start 2,928, dw_add 2,896, dw_close 2,816,
+ * dw_hash 2,512, dw_load 1,720, dw_save 1,280, dw_ask 1,144, dw_open 768, dw_judge 456, dw_lookup 440, dw_list_put 408, dw_drop 160,
+ * dw_list_start 32 and dw_lay_out 32: measured on x86-64 and on Arm, the larger of both, but those of the calls with a key, of dw_add,
+ * dw_load, dw_judge and dw_lookup on x86-64 alone. A thread with a small stack has to have as much to spare; four macros below have it in
+ * round numbers.
  *
  * Threads: nothing is kept between calls but what stands in a table, in a stream, in a keyed hash, or in a buffer with a list. Calls on
  * different tables, streams or keyed hashes, and calls on none, may run at once, each with outputs of its own, and a buffer in which a list
@@ -116,8 +118,8 @@ enum dw_edition {
 /* bytes of a bay's record, over the edition and the count that dw_ask tells; 0 where it tells of an empty bay, which has none */
 #define DW_RECORD_BYTES(edition, count) \
     ((edition) == 1 || (edition) == 2 ? 56 + (count) % 64 : (edition) >= 3 && (edition) <= 6 ? 88 + (count) % 128 : 0)
-/* the longest digest, the longest record, the root of a tree, and the longest map that a tree is made of; the longest list, which is
- * 16 + 256 * (8 + 64 + 64) bytes: a header, and 256 times an entry's two numbers, the longest digest and the longest name */
+/* the longest digest, and tag, the longest record, the root of a tree, and the longest map that a tree is made of; the longest list, which
+ * is 16 + 256 * (8 + 64 + 64) bytes: a header, and 256 times an entry's two numbers, the longest digest and the longest name */
 #define DW_LONGEST_DIGEST 64
 #define DW_LONGEST_RECORD 215
 #define DW_ROOT_BYTES 32
@@ -134,9 +136,10 @@ enum dw_edition {
  * are, and a call that is lent so many would read past the end. */
 #define DW_LIST_BYTES(list) \
     ((size_t)((list)[12] & 255) << 24 | (size_t)((list)[13] & 255) << 16 | (size_t)((list)[14] & 255) << 8 | (size_t)((list)[15] & 255))
-/* bytes of stack that dw_tree takes at most, that each call on a stream does, and that each other call does */
+/* bytes of stack that dw_tree takes at most, that each call on a stream does, each with a key, and each other call */
 #define DW_TREE_STACK 37000
 #define DW_STREAM_STACK 12000
+#define DW_KEYED_STACK 4000
 #define DW_STACK 3000
 
 /* For a whole message at hand: the digest of n bytes, at most 2^40, and of the upper `bits` bits (0 to 7) of `closing`, whose other bits
@@ -200,8 +203,9 @@ uint64_t dw_stream_root(const uint64_t *stream, size_t words, uint8_t *out, size
  * hashed first. The message has at most 2^40 bytes less a block. 5, 7, 9. */
 uint64_t dw_tag(uint64_t edition, const uint8_t *key, size_t key_n, const uint8_t *message, size_t n, uint8_t *out, size_t out_n);
 
-/* To hold a tag against a message: is it the whole tag? A front of it, or any other length, is 14. 5, 7, 14. */
-uint64_t dw_check_tag(uint64_t edition, const uint8_t *key, size_t key_n, const uint8_t *message, size_t n, const uint8_t *tag, size_t tag_n);
+/* To hold a tag against a message: 0 where it is the tag, whole and byte for byte; else 14, for a front of it too. 5, 7, 14. */
+uint64_t dw_check_tag(uint64_t edition, const uint8_t *key, size_t key_n, const uint8_t *message, size_t n, const uint8_t *tag,
+                      size_t tag_n);
 
 /* To begin the tag of a message that comes in pieces, over memory that held anything: a keyed hash that has taken the key. The key is not
  * needed any more. 5, 7, and 9 for fewer words than DW_KEYED_WORDS. With `uint64_t keyed[DW_KEYED_WORDS]` a tag is made by

@@ -16,10 +16,13 @@
  *   14 save      run, bay, output                        22 judge     lent list, lent name, lent digest
  *   15 load      run, bay, lent record                   23 lookup    lent list, lent name
  *   24 start     edition, buffer                         25 put       buffer, lent name, lent digest
+ *   26 tag       edition, lent key, lent message, output 27 check tag edition, lent key, lent message, lent tag
  *   30 leaf      lent bytes, output                      31 parent    lent left node, lent right node, output
  *   32 level     buffer
  *   40 stream begin   run                                41 stream add   run, lent piece
  *   42 stream root    run, output
+ *   50 keyed start    run, edition, lent key             51 keyed add    run, lent piece
+ *   52 keyed tag      run, output                        53 keyed check  run, lent tag
  *
  * A run is the place of its first word and its count of words. Lent is a count n and n bytes; but more than FAR bytes do not follow: the
  * call is lent n zeros then. Output is a count of at most OUTPUT bytes and a number f: counted from the beginning of the guard before it,
@@ -252,7 +255,7 @@ static uint64_t call_on_table(uint8_t which) {
 }
 
 static uint64_t call_at_once(uint8_t which) {
-  size_t n, name_n, digest_n, out_n;
+  size_t n, name_n, digest_n, out_n, key_n;
   switch (which) {
     case 20: {
       uint64_t edition = number();
@@ -284,6 +287,17 @@ static uint64_t call_at_once(uint8_t which) {
       uint8_t *list = lend_buffer(&n);
       const uint8_t *name = lend(&name_n), *digest = lend(&digest_n);
       return dw_list_put(list, n, name, name_n, digest, digest_n);
+    }
+    case 26: {
+      uint64_t edition = number();
+      const uint8_t *key = lend(&key_n), *message = lend(&n);
+      uint8_t *out = lend_output(&out_n);
+      return dw_tag(edition, key, key_n, message, n, out, out_n);
+    }
+    case 27: {
+      uint64_t edition = number();
+      const uint8_t *key = lend(&key_n), *message = lend(&n), *tag = lend(&digest_n);
+      return dw_check_tag(edition, key, key_n, message, n, tag, digest_n);
     }
     default: give_up("no such command");
   }
@@ -331,6 +345,31 @@ static uint64_t call_on_stream(uint8_t which) {
   }
 }
 
+static uint64_t call_on_keyed(uint8_t which) {
+  size_t run_n, n;
+  uint64_t *run = lend_run(&run_n);
+  switch (which) {
+    case 50: {
+      uint64_t edition = number();
+      const uint8_t *key = lend(&n);
+      return dw_keyed_start(run, run_n, edition, key, n);
+    }
+    case 51: {
+      const uint8_t *piece = lend(&n);
+      return dw_keyed_add(run, run_n, piece, n);
+    }
+    case 52: {
+      uint8_t *out = lend_output(&n);
+      return dw_keyed_tag(run, run_n, out, n);
+    }
+    case 53: {
+      const uint8_t *tag = lend(&n);
+      return dw_keyed_check(run, run_n, tag, n);
+    }
+    default: give_up("no such command");
+  }
+}
+
 /* Each ten of commands has a function of its own. */
 static uint64_t call_made(uint8_t which) {
   switch (which / 10) {
@@ -338,6 +377,7 @@ static uint64_t call_made(uint8_t which) {
     case 2: return call_at_once(which);
     case 3: return part_of_tree(which);
     case 4: return call_on_stream(which);
+    case 5: return call_on_keyed(which);
     default: give_up("no such command");
   }
 }

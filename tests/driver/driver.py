@@ -39,13 +39,19 @@ CALLS = {
     "lookup": (23, ("list", "name")),
     "list_start": (24, ("edition", "buffer")),
     "list_put": (25, ("buffer", "name", "digest")),
+    "tag": (26, ("edition", "key", "message", "out")),
+    "check_tag": (27, ("edition", "key", "message", "tag")),
     "stream_begin": (40, ("words",)),
     "stream_add": (41, ("words", "piece")),
     "stream_root": (42, ("words", "out")),
+    "keyed_start": (50, ("words", "edition", "key")),
+    "keyed_add": (51, ("words", "piece")),
+    "keyed_tag": (52, ("words", "out")),
+    "keyed_check": (53, ("words", "tag")),
 }
 PARTS = dict(leaf=(30, ("bytes", "out")), parent=(31, ("left", "right", "out")), level=(32, ("buffer",)))
 SIGNATURES = CALLS | PARTS
-LENT = {"piece", "record", "message", "map", "list", "name", "digest", "bytes", "left", "right"}
+LENT = {"piece", "record", "message", "map", "list", "name", "digest", "bytes", "left", "right", "key", "tag"}
 TELLING = {"ask": ("edition", "count"), "lookup": ("at", "len")}
 
 number, two_numbers = struct.Struct("<Q").pack, struct.Struct("<QQ").pack

@@ -119,6 +119,54 @@ static void streams(void)
     printf("\n");
 }
 
+/* SPEC's samples of a tag, which are a case of RFC 4231, in each edition: at once, and in two pieces through words of which the last is the
+ * caller's. The tag may be asked for halfway, and is compared whole. */
+static void tags(uint64_t edition)
+{
+    static const uint8_t key[] = {0x4a, 0x65, 0x66, 0x65};
+    static uint64_t keyed[DW_KEYED_WORDS + 1];
+    const uint8_t *text = (const uint8_t *)"what do ya want for nothing?";
+    enum { TEXT = 28, FIRST = 27 };
+    uint8_t tag[DW_LONGEST_DIGEST] = {0}, more[DW_LONGEST_DIGEST] = {0};
+    size_t n = (size_t)DW_DIGEST_BYTES(edition), block = edition == DW_SHA224 || edition == DW_SHA256 ? 64 : 128, k;
+    expect("tag in edition 7", dw_tag(7, key, sizeof key, text, TEXT, tag, n), DW_NO_SUCH_EDITION);
+    expect("tag in a byte less", dw_tag(edition, key, sizeof key, text, TEXT, tag, n - 1), DW_SHORT_OUTPUT);
+    if (memcmp(tag, more, sizeof tag) != 0)
+        wrong = 1;
+    expect("tag", dw_tag(edition, key, sizeof key, text, TEXT, tag, n), DW_DONE);
+    expect("check tag", dw_check_tag(edition, key, sizeof key, text, TEXT, tag, n), DW_DONE);
+    expect("check tag that is cut", dw_check_tag(edition, key, sizeof key, text, TEXT, tag, n - 1), DW_DIGEST_DIFFERS);
+    expect("check tag of another key", dw_check_tag(edition, key, sizeof key - 1, text, TEXT, tag, n), DW_DIGEST_DIFFERS);
+
+    memset(keyed, 0xee, sizeof keyed);
+    expect("keyed start in 33 words", dw_keyed_start(keyed, DW_KEYED_WORDS - 1, edition, key, sizeof key), DW_SHORT_OUTPUT);
+    expect("keyed start in edition 7", dw_keyed_start(keyed, DW_KEYED_WORDS - 1, 7, key, sizeof key), DW_NO_SUCH_EDITION);
+    expect("keyed add where no keyed hash is", dw_keyed_add(keyed, DW_KEYED_WORDS, text, 1), DW_NOT_SOUND);
+    expect("keyed start in more words", dw_keyed_start(keyed, DW_KEYED_WORDS + 1, edition, text, TEXT), DW_DONE);
+    expect("keyed start", dw_keyed_start(keyed, DW_KEYED_WORDS, edition, key, sizeof key), DW_DONE);
+    if (keyed[1] != block)
+        wrong = 1;
+    expect("keyed add", dw_keyed_add(keyed, DW_KEYED_WORDS, text, FIRST), DW_DONE);
+    expect("keyed tag halfway", dw_keyed_tag(keyed, DW_KEYED_WORDS, more, n), DW_DONE);
+    expect("keyed check halfway", dw_keyed_check(keyed, DW_KEYED_WORDS, tag, n), DW_DIGEST_DIFFERS);
+    expect("keyed add to 33 words", dw_keyed_add(keyed, DW_KEYED_WORDS - 1, text + FIRST, TEXT - FIRST), DW_NOT_SOUND);
+    expect("keyed add of the rest", dw_keyed_add(keyed, DW_KEYED_WORDS, text + FIRST, TEXT - FIRST), DW_DONE);
+    expect("keyed tag", dw_keyed_tag(keyed, DW_KEYED_WORDS, more, n), DW_DONE);
+    if (keyed[1] != block + TEXT || keyed[DW_KEYED_WORDS] != UINT64_C(0xeeeeeeeeeeeeeeee) || memcmp(tag, more, sizeof tag) != 0)
+        wrong = 1;
+    expect("keyed tag in a byte less", dw_keyed_tag(keyed, DW_KEYED_WORDS, more, n - 1), DW_SHORT_OUTPUT);
+    expect("keyed tag of 33 words", dw_keyed_tag(keyed, DW_KEYED_WORDS - 1, more, n), DW_NOT_SOUND);
+    expect("keyed check", dw_keyed_check(keyed, DW_KEYED_WORDS, tag, n), DW_DONE);
+    expect("keyed check of a tag that is cut", dw_keyed_check(keyed, DW_KEYED_WORDS, tag, n - 1), DW_DIGEST_DIFFERS);
+    expect("keyed start anew", dw_keyed_start(keyed, DW_KEYED_WORDS, edition, key, sizeof key), DW_DONE);
+    keyed[1] = UINT64_C(1) << 40;
+    expect("keyed add at the limit", dw_keyed_add(keyed, DW_KEYED_WORDS, text, 1), DW_TOO_LONG);
+    printf("tag %" PRIu64 " ", edition);
+    for (k = 0; k < n; k++)
+        printf("%02x", tag[k]);
+    printf("\n");
+}
+
 int main(void)
 {
     const uint8_t *nothing = (const uint8_t *)"";
@@ -159,6 +207,7 @@ int main(void)
     printf("table %d %d\n", DW_TABLE_WORDS(1), DW_TABLE_WORDS(64));
     printf("longest %d %d %d\n", DW_LONGEST_DIGEST, DW_LONGEST_RECORD, DW_LONGEST_LIST);
     printf("stream %d %" PRIu64 "\n", DW_STREAM_WORDS, (uint64_t)DW_LONGEST_STREAM);
+    printf("keyed %d\n", DW_KEYED_WORDS);
 
     memset(message, 'm', sizeof message);
     for (i = 1; i <= 6; i++)
@@ -183,5 +232,7 @@ int main(void)
     lists(0);
     lists(1);
     streams();
+    for (i = 1; i <= 6; i++)
+        tags(i);
     return wrong || sizeof(same_size) != 1;
 }

@@ -1,6 +1,7 @@
 """said.py OUTPUT: what the program outside wrote, against docs/SPEC.md, crates/answers and the file VERSION. Each fault is a line; the exit
 status is 1 where there is one."""
 import hashlib
+import hmac
 import re
 import struct
 import sys
@@ -44,6 +45,7 @@ expected += [f"longest {max(sizes.values())} " + max(re.findall(r"\d+(?= \()", r
 limits = {row[0]: row for row in rows("## Limits", "what |")}
 power = re.match(r"2\^(\d+)", limits["bytes of a map that a stream takes"][2]).group(1)
 expected += [f"stream {limits['words of a stream'][1]} {2 ** int(power)}"]
+expected += [f"keyed {limits['words of a keyed hash'][1]}"]
 expected += ["digest " + hashlib.sha512(b"m" * 300).hexdigest()]
 entries = struct.pack(">II", 96, 9) + hashlib.sha256(b"abc").digest() + struct.pack(">II", 105, 8) + hashlib.sha256(b"").digest()
 listed = struct.pack(">HHIII", 2, 2, 16, 96, 113) + entries + b"fleet.cfg" + b"yard.map"
@@ -61,6 +63,10 @@ def tree(chunks):
 stream = tree([b"m" * n for n in (1024, 1024, 1024, 1024, 1024, 880)]).hex()
 assert f"`{stream[:32]}`" in spec and f"`{stream[32:]}`" in spec, "SPEC's sample of a stream has another root"
 expected += ["root " + stream]
+names = {1: "sha224", 2: "sha256", 3: "sha384", 4: "sha512", 5: "sha512_224", 6: "sha512_256"}
+tags = {n: hmac.new(b"Jefe", b"what do ya want for nothing?", names[n]).hexdigest() for n in names}
+assert f"`{tags[2][:32]}`" in spec and f"`{tags[2][32:]}`" in spec, "SPEC's sample of a tag is another"
+expected += [f"tag {n} {tags[n]}" for n in tags]
 
 said = Path(sys.argv[1]).read_text().splitlines()
 faults = [f"not said: {line}" for line in expected if line not in said] + [f"said: {line}" for line in said if line not in expected]

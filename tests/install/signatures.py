@@ -26,7 +26,7 @@ def of_rattle(text):
 def of_header(text):
     text = re.sub(r"/\*.*?\*/", " ", text, flags=re.S).replace("\\\n", " ")
     for name, value in re.findall(r"^#define (DW_\w+(?:\([^)]*\))?) +(.+)$", text, re.M):
-        if name not in ("DW_VERSION", "DW_STACK", "DW_STREAM_STACK", "DW_TREE_STACK"):
+        if name not in ("DW_VERSION", "DW_STACK", "DW_KEYED_STACK", "DW_STREAM_STACK", "DW_TREE_STACK"):
             yield f"size {name} {' '.join(value.split())}"
     for body in re.findall(r"enum \w+ \{(.*?)\};", text, re.S):
         yield from (f"number {' '.join(number.split())}" for number in body.split(","))

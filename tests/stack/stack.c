@@ -10,8 +10,8 @@ _Noreturn void _exit(int status);
 enum { STACK = 1 << 16, PAINT = 0xa5, BAYS = 64, WORDS = DW_TABLE_WORDS(BAYS), MAP = DW_LONGEST_MAP, LIST = 34832 };
 
 static _Alignas(16) uint8_t stack[STACK];
-static uint64_t table[WORDS], stream[DW_STREAM_WORDS], edition, count, sound;
-static uint8_t map[MAP + 1], list[LIST], record[DW_LONGEST_RECORD], out[256];
+static uint64_t table[WORDS], stream[DW_STREAM_WORDS], keyed[DW_KEYED_WORDS], edition, count, sound;
+static uint8_t map[MAP + 1], list[LIST], record[DW_LONGEST_RECORD], tag[DW_LONGEST_DIGEST], out[256];
 static size_t list_n, at, len, n;
 static uint64_t number;
 
@@ -57,7 +57,7 @@ static size_t taken(void (*prepare)(void), void (*use)(void))
 /* The values of a use, which prepare sets up and the calls read. */
 static uint64_t u_edition, u_bits, u_bay, u_chunks;
 static uint8_t u_closing;
-static size_t u_n, u_out, u_names, u_words, u_damage;
+static size_t u_n, u_out, u_names, u_words, u_damage, u_key;
 
 static void fill(void)
 {
@@ -91,6 +91,20 @@ static void make_stream(void)
     stream[1] = n;
     stream[DW_STREAM_WORDS - 1] = u_damage;
 }
+/* The tag that is compared, with its last byte right or not. */
+static void make_tag(void)
+{
+    sound |= dw_tag(u_edition, map, u_key, map, u_n, tag, sizeof tag);
+    tag[DW_DIGEST_BYTES(u_edition) - 1] ^= (uint8_t)u_damage;
+}
+/* The last byte of a tail is never taken: where it is not zero the words are not sound. */
+static void make_keyed(void)
+{
+    sound |= dw_keyed_start(keyed, DW_KEYED_WORDS, u_edition, map, u_key);
+    sound |= dw_keyed_add(keyed, DW_KEYED_WORDS, map, n);
+    sound |= dw_keyed_tag(keyed, DW_KEYED_WORDS, tag, sizeof tag);
+    keyed[25] |= u_damage;
+}
 static void nothing(void) {}
 
 static void no_call(void) {}
@@ -111,6 +125,12 @@ static void use_list_put(void) { number = dw_list_put(list, list_n + u_out, (con
 static void use_stream_begin(void) { number = dw_stream_begin(stream, u_words); }
 static void use_stream_add(void) { number = dw_stream_add(stream, u_words, map, u_n); }
 static void use_stream_root(void) { number = dw_stream_root(stream, u_words, out, u_out); }
+static void use_tag(void) { number = dw_tag(u_edition, map, u_key, map, u_n, out, u_out); }
+static void use_check_tag(void) { number = dw_check_tag(u_edition, map, u_key, map, u_n, tag, u_out); }
+static void use_keyed_start(void) { number = dw_keyed_start(keyed, u_words, u_edition, map, u_key); }
+static void use_keyed_add(void) { number = dw_keyed_add(keyed, u_words, map, u_n); }
+static void use_keyed_tag(void) { number = dw_keyed_tag(keyed, u_words, out, u_out); }
+static void use_keyed_check(void) { number = dw_keyed_check(keyed, u_words, tag, u_out); }
 
 /* A number of so many bytes, most significant first. */
 static uint8_t *put(uint8_t *to, int bytes, size_t value)
@@ -140,10 +160,11 @@ static void make_list(void)
 }
 
 enum { HASH, LAY_OUT, OPEN, ADD, CLOSE, SAVE, LOAD, ASK, DROP, TREE, JUDGE, LOOKUP, LIST_START, LIST_PUT, STREAM_BEGIN, STREAM_ADD,
-       STREAM_ROOT, CALLS };
-static const char *const names[CALLS] = {"hash",       "lay_out",  "open",         "add",        "close",       "save",
-                                         "load",       "ask",      "drop",         "tree",       "judge",       "lookup",
-                                         "list_start", "list_put", "stream_begin", "stream_add", "stream_root"};
+       STREAM_ROOT, TAG, CHECK_TAG, KEYED_START, KEYED_ADD, KEYED_TAG, KEYED_CHECK, CALLS };
+static const char *const names[CALLS] = {"hash",       "lay_out",     "open",         "add",        "close",       "save",
+                                         "load",       "ask",         "drop",         "tree",       "judge",       "lookup",
+                                         "list_start", "list_put",    "stream_begin", "stream_add", "stream_root", "tag",
+                                         "check_tag",  "keyed_start", "keyed_add",    "keyed_tag",  "keyed_check"};
 static size_t most[CALLS];
 static uint64_t done[CALLS], refused[CALLS];
 
@@ -179,6 +200,38 @@ static void stream_uses(void)
                     for (u_out = 31; u_out <= 32; u_out++)
                         measure(STREAM_ROOT, make_stream, use_stream_root);
                 }
+}
+
+/* Keys that are filled up, of a block and hashed; messages and states of few bytes and many, which end in one block or two; each refusal.
+ * An edition that is none is asked for by the calls that take one. */
+static void keyed_uses(void)
+{
+    static const size_t keys[] = {0, 20, 64, 65, 128, 129, 1000}, bytes[] = {0, 1, 55, 63, 64, 111, 112, 127, 1000};
+
+    for (u_edition = 1; u_edition <= 7; u_edition++)
+        for (size_t i = 0; i < sizeof keys / sizeof *keys; i++)
+            for (size_t k = 0; k < sizeof bytes / sizeof *bytes; k++) {
+                size_t digest = DW_DIGEST_BYTES(u_edition);
+                u_key = keys[i];
+                u_n = n = bytes[k];
+                for (u_words = DW_KEYED_WORDS - 1; u_words <= DW_KEYED_WORDS; u_words++)
+                    measure(KEYED_START, nothing, use_keyed_start);
+                for (u_out = 27; u_out <= 64; u_out += 37)
+                    measure(TAG, nothing, use_tag);
+                if (u_edition > 6) {
+                    measure(CHECK_TAG, nothing, use_check_tag);
+                    continue;
+                }
+                for (u_damage = 0; u_damage < 2; u_damage++)
+                    for (u_out = digest - 1; u_out <= digest; u_out++) {
+                        measure(CHECK_TAG, make_tag, use_check_tag);
+                        for (u_words = DW_KEYED_WORDS - 1; u_words <= DW_KEYED_WORDS; u_words++) {
+                            measure(KEYED_TAG, make_keyed, use_keyed_tag);
+                            measure(KEYED_CHECK, make_keyed, use_keyed_check);
+                            measure(KEYED_ADD, make_keyed, use_keyed_add);
+                        }
+                    }
+            }
 }
 
 int main(void)
@@ -225,6 +278,7 @@ int main(void)
         for (u_out = 31; u_out <= 32; u_out++)
             measure(TREE, nothing, use_tree);
     stream_uses();
+    keyed_uses();
 
     for (int call = 0; call < CALLS; call++) {
         if (done[call] == 0 || (refused[call] == 0 && call != LAY_OUT)) {

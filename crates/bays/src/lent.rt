@@ -1,4 +1,5 @@
-// The words of a bay outside a table: SPEC, "Keyed digests", has them in front of a keyed hash. The layout of a bay is known here alone.
+// The words of a bay outside a table, for whoever keeps a half-read message in words of his own: how a bay is laid out stays known to this
+// crate alone. SPEC, "The table of bays".
 ghost use mathlib.Core.Path.{_≡_};
 ghost use Rattle.slices.specs.Padded.{padded};
 ghost use Rattle.bays.specs.Places.{bayWords};

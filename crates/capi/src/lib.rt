@@ -4,7 +4,7 @@ ghost use mathlib.Core.List.{[]};
 ghost use mathlib.Core.Path.{_≡_};
 ghost use Rattle.answers.specs.Judged.{first};
 ghost use Rattle.calls.specs.Calls.{Call, told, Lends, Outcome, Asks};
-ghost use Rattle.keyed.specs.AtOnce.{Tags, checkTests as tagTests};
+ghost use Rattle.keyed.specs.AtOnce.{Tags, checkAtOnceTests};
 ghost use Rattle.keyedwords.specs.Calls as keyedwords;
 ghost use Rattle.lists.specs.Calls.{spot, Finds, judgeTests};
 ghost use Rattle.sha2.specs.Hash.{Hashes};
@@ -142,7 +142,7 @@ pub extern "C" fn dw_tag(edition: u64, key: &[u8], message: &[u8], out: &mut [u8
 #[no_mangle]
 pub extern "C" fn dw_check_tag(edition: u64, key: &[u8], message: &[u8], tag: &[u8]) -> u64
     ensures { λ r.
-        ⌜ r ≡ first (tagTests edition (now (key .entry)) (now (message .entry)) (now (tag .entry))) ⌝ }
+        ⌜ r ≡ first (checkAtOnceTests edition (now (key .entry)) (now (message .entry)) (now (tag .entry))) ⌝ }
 {
     answers::number(keyed::at_once::check(edition, key, message, tag))
 }

@@ -1,9 +1,9 @@
 -- The key as a block: `length-blockKey`, it has as many bytes as a block, and so have the two blocks made of it, `length-inner` and
--- `length-outer`; they are bytes, `bytes-inner` and `bytes-outer`. `long-key` and `short-key`: which key is hashed. A tag is as
--- long as a digest: `length-hmac`.
+-- `length-outer`; they are bytes, `bytes-inner` and `bytes-outer`. `long-key`, `short-key` and `exact-key`: which key is
+-- hashed. A tag is as long as a digest: `length-hmac`.
 use Prim.Native.Nat.{ℕ, zero, suc, _-_, _≤_, _<_}
 use mathlib.Core.Bool.{Bool, true, false, cond}
-use mathlib.Core.List.{List, [], _∷_, _++_}
+use mathlib.Core.List.{List, [], _∷_, _++_, append-nil}
 use mathlib.Core.Path.{_≡_, refl, ap, _∙_}
 use native.Mathlib.Omega.{arith}
 use borrow.Author.Tests.{lt-ltb, le-ltb, ltb-false}
@@ -47,6 +47,12 @@ module _ (e : ℕ) where
   pub short-key : (key : List ℕ) → length key ≤ B e → blockKey e key ≡ filled e key
   unfolding blockKey
   short-key key h = rw (le-ltb (B e) (length key) h)
+
+  -- one of exactly a block is taken as it is
+  pub exact-key : (key : List ℕ) → length key ≡ B e → blockKey e key ≡ key
+  exact-key key long =
+      let none : B e - length key ≡ 0 = omega arith in
+      short-key key (omega arith) ∙ ap (λ (n : ℕ). key ++ replicate n 0) none ∙ append-nil key
 
   -- what is filled finds room in a block
   fitting : (b : Bool) (key : List ℕ) → ltb (B e) (length key) ≡ b → length (cond b (H e key) key) ≤ B e

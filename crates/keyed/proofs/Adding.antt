@@ -1,6 +1,6 @@
 -- A keyed hash from its start on: `started-sound` and `started-shaped`; with pieces, `added-append`, `added-none`, `added-sound` and
--- `added-shaped`; the tag's length, `length-tagOf`; and where a
--- tag stands in a buffer, `front-tag`. A block alone keeps the limit: `block-short`.
+-- `added-shaped`. A tag's length, `length-tagOf`, and where it stands in a buffer, `front-tag`. A block alone keeps the limit:
+-- `block-short`.
 use Prim.Native.Nat.{ℕ, _+_, _^_, _<_}
 use mathlib.Core.Bool.{true, false}
 use mathlib.Core.List.{List, [], _++_}

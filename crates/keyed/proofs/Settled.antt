@@ -11,8 +11,6 @@ use Rattle.answers.proofs.Outcome.{answer-both, answer-numbered}
 use Rattle.keyed.specs.declared.Keyed.{Keyed}
 use Rattle.keyed.specs.declared.state.Started.{Started}
 use Rattle.keyed.specs.declared.add.Added.{Added}
-use Rattle.keyed.proofs.state.blank as blank
-use Rattle.keyed.proofs.state.blank.Reads as blank-reads
 use Rattle.keyed.proofs.state.start as start
 use Rattle.keyed.proofs.state.start.Reads as start-reads
 use Rattle.keyed.proofs.state.is_sound as is-sound
@@ -34,9 +32,6 @@ started p = record { answer = p .0; keyed = p .1 }
 
 abbrev added : Answer × Keyed → Added
 added p = record { answer = p .0; keyed = p .1 }
-
-pub blank-settled : Settles blank.ended blank-reads.Learnt (λ κs r x. r)
-blank-settled κs a r s x y = value-settled
 
 pub start-settled : Settles start.ended start-reads.Learnt (λ κs r x. r)
 start-settled κs a r s x y j k = ap started (answer-both (j .0) (k .0))

@@ -18,14 +18,14 @@ lengthTests e k n = 5 when not (known e) ∷ 7 when (tooLong e 0 k || tooLong e 
 module _ (e : ℕ) (key message : List ℕ) where
   -- ---- made: 5, 7, 9
 
-  unfoldable pub tagTests : List ℕ → List Test
-  tagTests out = lengthTests e (length key) (length message) ++ (9 when ltb (length out) (digestBytes e) ∷ [])
+  unfoldable pub tagAtOnceTests : List ℕ → List Test
+  tagAtOnceTests out = lengthTests e (length key) (length message) ++ (9 when ltb (length out) (digestBytes e) ∷ [])
 
   -- the tag at the front of the output
   abbrev pub Tags : List ℕ → ℕ → List ℕ → Type 0
-  Tags out n left = Judged (tagTests out) out (atFront (hmac e key message) out) n left
+  Tags out n left = Judged (tagAtOnceTests out) out (atFront (hmac e key message) out) n left
 
   -- ---- compared: 5, 7, 14
 
-  unfoldable pub checkTests : List ℕ → List Test
-  checkTests tag = lengthTests e (length key) (length message) ++ (14 when not (same tag (hmac e key message)) ∷ [])
+  unfoldable pub checkAtOnceTests : List ℕ → List Test
+  checkAtOnceTests tag = lengthTests e (length key) (length message) ++ (14 when not (same tag (hmac e key message)) ∷ [])

@@ -25,7 +25,7 @@ startTests e key = 5 when not (known e) ∷ 7 when tooLong e 0 (length key) ∷ 
 unfoldable pub started : ℕ → List ℕ → Keyed
 started e key = record { inner = half.added (opened e) (innerBlock e key); outer = half.added (opened e) (outerBlock e key) .words }
 
--- from the words after the outer block on, the digest of the inner message
+-- the digest of a message whose first block left the outer words, and whose rest is the digest of the inner message
 unfoldable pub outerDigest : ℕ → List ℕ → List ℕ → List ℕ
 outerDigest e outer inner = digestFrom e (finished e outer (B e + digestBytes e) inner 0 0)
 

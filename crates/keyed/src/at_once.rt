@@ -8,7 +8,7 @@ ghost use Rattle.slices.specs.Padded.{padded};
 ghost use Rattle.hmac.specs.Hmac.{B, hmac};
 ghost use Rattle.sha2.specs.Limit.{tooLong};
 ghost use Rattle.keyed.specs.State.{tagRoom};
-ghost use Rattle.keyed.specs.AtOnce.{lengthTests, checkTests, Tags};
+ghost use Rattle.keyed.specs.AtOnce.{lengthTests, checkAtOnceTests, Tags};
 use crate::outer::TAG;
 use crate::outer::tag_of;
 use crate::pads::INNER;
@@ -72,15 +72,15 @@ pub fn tag(edition: u64, key: &[u8], message: &[u8], out: &mut [u8]) -> Answer
 
 pub fn check(edition: u64, key: &[u8], message: &[u8], tag: &[u8]) -> Answer
     ensures { λ r.
-        ⌜ numberOf r ≡ first (checkTests edition (now (key .entry)) (now (message .entry)) (now (tag .entry))) ⌝ }
+        ⌜ numberOf r ≡ first (checkAtOnceTests edition (now (key .entry)) (now (message .entry)) (now (tag .entry))) ⌝ }
 {
     let passed = gate(edition, key.len(), message.len());
     let Answer::Done = passed else {
         return passed;
     };
     let n = digest_bytes(edition);
-    let made = made(edition, key, message);
-    if !same_bytes(tag, &made[..n]) {
+    let whole = made(edition, key, message);
+    if !same_bytes(tag, &whole[..n]) {
         return Answer::DigestDiffers;
     }
     Answer::Done

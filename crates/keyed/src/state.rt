@@ -26,7 +26,7 @@ pub struct Started {
 }
 
 // All zeros, which is not sound: what a refused start hands back.
-pub fn blank() -> Keyed
+fn blank() -> Keyed
     ensures { λ r. ⌜ r ≡ blank ⌝ }
 {
     Keyed {

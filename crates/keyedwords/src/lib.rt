@@ -15,16 +15,16 @@ use keyed::Keyed;
 use slices::front::put_words_front;
 
 // Where they stand: the words of a bay, and then the outer ones.
-const OUTER: usize = bays::lent::WORDS;
+const OUTER_FROM: usize = bays::lent::WORDS;
 
-pub const WORDS: usize = OUTER + 8;
+pub const WORDS: usize = OUTER_FROM + 8;
 
 fn unpack(words: &[u64]) -> Keyed
     requires { ⌜ keyedWords ≤ length (now words) ⌝ }
     ensures { λ r. ⌜ r ≡ keyedIn (now (words .entry)) ⌝ }
 {
     let mut outer = [0u64; 8];
-    put_words_front(&mut outer, &words[OUTER..WORDS]);
+    put_words_front(&mut outer, &words[OUTER_FROM..WORDS]);
     Keyed {
         inner: half_in(words),
         outer,
@@ -39,7 +39,7 @@ fn pack(words: &mut [u64], keyed: Keyed)
     let inner = words_of(keyed.inner);
     let outer = keyed.outer;
     put_words_front(words, &inner);
-    put_words_front(&mut words[OUTER..], &outer);
+    put_words_front(&mut words[OUTER_FROM..], &outer);
 }
 
 // Over words that held anything.

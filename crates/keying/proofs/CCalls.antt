@@ -1,7 +1,7 @@
 -- Calls on a keyed hash under C names, one by one, over any words: `c-start-kept`, `c-add-kept`, `c-tag-kept`, a refused call changes
--- nothing; `c-start-sound`, `c-add-sound`, `c-tag-defined`, sound keyed hashes stay sound and have a tag; `c-add-nothing`, no bytes change
--- nothing; `c-hmac-append`, a piece and then another are done exactly where the two in one are, and leave the same words; `c-start-behind`,
--- `c-add-behind`, the words behind a keyed hash are never touched.
+-- nothing; `c-tag-keeps`, `c-check-keeps`, an end changes no word; `c-start-sound`, `c-add-sound`, `c-tag-defined`, sound keyed hashes stay
+-- sound and have a tag; `c-add-nothing`, no bytes change nothing; `c-hmac-append`, a piece and then another are done exactly where the two
+-- in one are, and leave the same words; `c-start-behind`, `c-add-behind`, the words behind a keyed hash are never touched.
 use Prim.Native.Nat.{ℕ, zero, suc, _<_, _≤_}
 use mathlib.Core.Bool.{true}
 use mathlib.Core.List.{List, [], _++_}
@@ -35,6 +35,8 @@ use Rattle.capi.proofs.dw_keyed_add as add
 use Rattle.capi.proofs.dw_keyed_add.Reads as add-reads
 use Rattle.capi.proofs.dw_keyed_tag as tagging
 use Rattle.capi.proofs.dw_keyed_tag.Reads as tagging-reads
+use Rattle.capi.proofs.dw_keyed_check as checking
+use Rattle.capi.proofs.dw_keyed_check.Reads as checking-reads
 use Rattle.keying.proofs.Passing.{StartPasses, AddPasses, add-passed, add-passes, tag-answers}
 use Rattle.keying.proofs.Passing.{same-passes, passes-both, passes-first, passes-second}
 
@@ -46,6 +48,9 @@ Add = Made add.ended add-reads.Learnt
 
 abbrev pub Tag : Type 0
 Tag = Made tagging.ended tagging-reads.Learnt
+
+abbrev pub Check : Type 0
+Check = Made checking.ended checking-reads.Learnt
 
 -- the words, the edition and the key of a start
 abbrev pub over : Start → List ℕ
@@ -161,6 +166,14 @@ c-add-kept m r = refused-leaves (m .learnt .0) r
 
 pub c-tag-kept : (m : Tag) → 0 < m .result → now (exit m .1 .0) ≡ now (m .args .1 .0)
 c-tag-kept m r = refused-leaves (m .learnt) r
+
+-- ---- an end keeps the words, done or refused
+
+pub c-tag-keeps : (m : Tag) → now (exit m .0) ≡ now (m .args .0)
+c-tag-keeps m = refl
+
+pub c-check-keeps : (m : Check) → now (exit m .0) ≡ now (m .args .0)
+c-check-keeps m = refl
 
 -- ---- sound keyed hashes stay sound, and have a tag
 

@@ -1,18 +1,20 @@
 -- HMAC under C names, as theorems about calls that were made. `c-hmac-at-once` and `c-hmac-compared`: a tag at once is FIPS 198-1's. In
 -- lent words from the start: `c-hmac-of`, words that were started and added to hold `keyedOf` of the key and all bytes; `c-hmac-answers`
 -- and `c-tag-answer`, no such call is told that the keyed hash is not sound; `c-hmac-pieces`, the tag is FIPS 198-1's of the joined
--- message, what a tag at once writes, `c-pieces-at-once`, and a tag is accepted exactly where it is that, `c-pieces-compared`.
-use Prim.Native.Nat.{ℕ, _≤_}
+-- message, answered and left as a tag at once, `c-pieces-at-once`, and a tag is accepted exactly where it is that, `c-pieces-compared`.
+-- `c-at-once-kept`: a refused tag at once leaves its output.
+use Prim.Native.Nat.{ℕ, _<_, _≤_}
 use mathlib.Core.Bool.{Bool, cond}
 use mathlib.Core.List.{List, _++_}
-use mathlib.Core.Path.{_≡_, refl, sym, ap, ap₂, _∙_}
+use mathlib.Core.Path.{_≡_, refl, ap, _∙_}
 use native.Mathlib.Omega.{arith}
 use denote.Ref.{now}
 use lib.Dec.{ltb}
 use lib.ListN.{length}
 use Rattle.contracts.specs.Says.{Made, exit}
 use Rattle.answers.specs.Judged.{first}
-use Rattle.answers.proofs.Refusals.{zero-leaves}
+use Rattle.answers.proofs.Outcome.{outcome-settled}
+use Rattle.answers.proofs.Refusals.{zero-leaves, refused-leaves}
 use Rattle.slices.specs.AtFront.{atFront}
 use Rattle.slices.specs.Tests.{same}
 use Rattle.fips.specs.Editions.{digestBytes}
@@ -20,24 +22,27 @@ use Rattle.sha2.specs.Limit.{tooLong}
 use Rattle.hmac.specs.Hmac.{B, hmac}
 use Rattle.keyed.specs.AtOnce.{lengthTests}
 use Rattle.keyed.specs.Steps.{keyedOf}
-use Rattle.keyed.proofs.Judging.{check-first}
+use Rattle.keyed.proofs.Judging.{lengths-passed, check-first}
 use Rattle.keyedwords.specs.Words.{keyedWords, keyedIn}
 use Rattle.capi.proofs.dw_tag as at-once
 use Rattle.capi.proofs.dw_tag.Reads as at-once-reads
 use Rattle.capi.proofs.dw_check_tag as at-once-check
 use Rattle.capi.proofs.dw_check_tag.Reads as at-once-check-reads
-use Rattle.capi.proofs.dw_keyed_check as checking
-use Rattle.capi.proofs.dw_keyed_check.Reads as checking-reads
 use Rattle.keying.specs.InC.{Lent, started-in, added-in, kept-in}
 use Rattle.keying.proofs.Passing.{add-answers, tag-answers, check-answers}
 use Rattle.keying.proofs.Leading.{Leads, leads-start, leads-same, leads-add, leads-sound, leads-edition, leads-tag, room-left}
-use Rattle.keying.proofs.CCalls.{Add, Tag, before, piece, add-tests, tag-tests, check-tests, start-done, add-done, c-add-kept}
+use Rattle.keying.proofs.Leading.{leads-lengths, leads-tagged, once-tagged}
+use Rattle.keying.proofs.CCalls.{Add, Tag, Check, before, piece, add-tests, tag-tests, check-tests, start-done, add-done, c-add-kept}
 
 -- ---- at once
 
 pub c-hmac-at-once : (m : Made at-once.ended at-once-reads.Learnt) → m .result ≡ 0 →
     now (exit m .1 .1 .1 .0) ≡ atFront (hmac (m .args .0) (now (m .args .1 .0)) (now (m .args .1 .1 .0))) (now (m .args .1 .1 .1 .0))
 c-hmac-at-once m z = zero-leaves (m .learnt) z
+
+-- refused, it leaves the output
+pub c-at-once-kept : (m : Made at-once.ended at-once-reads.Learnt) → 0 < m .result → now (exit m .1 .1 .1 .0) ≡ now (m .args .1 .1 .1 .0)
+c-at-once-kept m r = refused-leaves (m .learnt) r
 
 -- where the edition and the lengths pass, the tag decides
 pub c-hmac-compared : (m : Made at-once-check.ended at-once-check-reads.Learnt) →
@@ -46,7 +51,7 @@ pub c-hmac-compared : (m : Made at-once-check.ended at-once-check-reads.Learnt) 
     let text = now (m .args .1 .1 .0) in
     first (lengthTests e (length key) (length text)) ≡ 0 →
     m .result ≡ cond (same (now (m .args .1 .1 .1 .0)) (hmac e key text)) 0 14
-c-hmac-compared m none = m .learnt ∙ check-first _ _ _ _ none _ refl
+c-hmac-compared m none = m .learnt ∙ check-first _ _ _ _ (lengths-passed _ _ _ none) _ refl
 
 -- ---- from the start
 
@@ -60,7 +65,7 @@ c-leads (started-in m z) =
     let d = start-done m z in
     record {
       enough = omega (arith, d .left .long, d .left .enough);
-      held = leads-same (leads-start _ _ (d .passes .ok) (m .learnt .1 .1)) (d .left .holds);
+      held = leads-same (leads-start _ _ (d .passes) (m .learnt .1 .1)) (d .left .holds);
     }
 c-leads (added-in t m on z) =
     let l = c-leads t in
@@ -110,18 +115,18 @@ module _ {e : ℕ} {key all ws : List ℕ} (t : Lent e key all ws) where
     pub c-hmac-pieces : m .result ≡ 0 → now (exit m .1 .0) ≡ atFront (hmac e key all) out
     c-hmac-pieces z = zero-leaves (m .learnt) z ∙ ap (λ (tag : List ℕ). atFront tag out) (leads-tag (lead-on on .held))
 
-    -- a tag at once of the same writes the same
+    -- a tag at once of the same answers and leaves the same
     pub c-pieces-at-once : (w : Made at-once.ended at-once-reads.Learnt) → w .args .0 ≡ e → now (w .args .1 .0) ≡ key →
-        now (w .args .1 .1 .0) ≡ all → now (w .args .1 .1 .1 .0) ≡ out → w .result ≡ 0 → m .result ≡ 0 →
-        now (exit m .1 .0) ≡ now (exit w .1 .1 .1 .0)
-    c-pieces-at-once w isE isKey isAll isOut y z =
-        c-hmac-pieces z
-        ∙ sym
-        (c-hmac-at-once w y
-        ∙ ap₂ atFront (ap₂ (λ (n : ℕ) (l : List ℕ). hmac n l (now (w .args .1 .1 .0))) isE isKey ∙ ap (hmac e key) isAll) isOut)
+        now (w .args .1 .1 .0) ≡ all → now (w .args .1 .1 .1 .0) ≡ out →
+        (m .result ≡ w .result) × (now (exit m .1 .0) ≡ now (exit w .1 .1 .1 .0))
+    c-pieces-at-once w isE isKey isAll isOut =
+        let l = lead-on on in
+        outcome-settled
+        (leads-tagged e key all out (l .held) (tag-tests (now (m .args .0)) out (l .enough)) (m .learnt))
+        (once-tagged e key all out (leads-lengths (l .held)) isE isKey isAll isOut (w .learnt))
 
   -- a tag is accepted exactly where it is that of the joined message
-  pub c-pieces-compared : (m : Made checking.ended checking-reads.Learnt) → now (m .args .0) ≡ ws →
+  pub c-pieces-compared : (m : Check) → now (m .args .0) ≡ ws →
       m .result ≡ cond (same (now (m .args .1 .0)) (hmac e key all)) 0 14
   c-pieces-compared m on =
       let l = lead-on on in

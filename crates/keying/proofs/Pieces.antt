@@ -2,8 +2,9 @@
 -- whole message is FIPS 198-1's, and a tag is accepted exactly where it is that, `hmac-compared`. `hmac-append`: a piece and then another
 -- are done exactly where the two in one are, and leave the same; `hmac-nothing`: no bytes change nothing. `hmac-of`: a start and pieces
 -- lead to `keyedOf` of the key and all bytes; `hmac-answers`: none is refused but for the limit. `hmac-pieces`: the tag written is FIPS
--- 198-1's of the joined message, and `pieces-compared`: a tag is accepted exactly where it is that. `start-sound`, `add-sound`,
--- `tag-defined`: sound keyed hashes stay sound, and have a tag. `start-kept`, `keyed-kept`, `tag-kept`: a refused call changes nothing.
+-- 198-1's of the joined message, answered and left as a tag at once, `pieces-at-once`; and `pieces-compared`: a tag is accepted exactly
+-- where it is that. `start-sound`, `add-sound`, `tag-defined`: sound keyed hashes stay sound, and have a tag. `at-once-kept`, `start-kept`,
+-- `keyed-kept`, `tag-kept`: a refused call changes nothing.
 use Prim.Native.Nat.{ℕ, zero, suc, _<_, _≤_}
 use mathlib.Core.Bool.{Bool, true, cond}
 use mathlib.Core.List.{List, [], _++_}
@@ -17,7 +18,7 @@ use Rattle.contracts.specs.Says.{Made, exit}
 use Rattle.answers.specs.declared.Answer.{Answer}
 use Rattle.answers.specs.Judged.{first}
 use Rattle.answers.specs.Numbers.{numberOf}
-use Rattle.answers.proofs.Outcome.{number-injective}
+use Rattle.answers.proofs.Outcome.{number-injective, answer-settled}
 use Rattle.answers.proofs.Refusals.{zero-first, zero-leaves, done-first, done-leaves, refused-leaves}
 use Rattle.slices.specs.AtFront.{atFront}
 use Rattle.slices.specs.Below.{Bytes}
@@ -30,7 +31,7 @@ use Rattle.keyed.specs.State.{blank, sound, Shaped}
 use Rattle.keyed.specs.Steps.{added, tagOf, keyedOf}
 use Rattle.keyed.specs.AtOnce.{lengthTests}
 use Rattle.keyed.proofs.Adding.{started-sound, added-append, added-none, added-sound, length-tagOf}
-use Rattle.keyed.proofs.Judging.{check-first}
+use Rattle.keyed.proofs.Judging.{lengths-passed, check-first}
 use Rattle.keyed.proofs.state.start as start
 use Rattle.keyed.proofs.state.start.Reads as start-reads
 use Rattle.keyed.proofs.add.add as add
@@ -45,8 +46,9 @@ use Rattle.keyed.proofs.at_once.check as at-once-check
 use Rattle.keyed.proofs.at_once.check.Reads as at-once-check-reads
 use Rattle.keying.specs.ByValue.{Taken, started-by, added-by, kept-by}
 use Rattle.keying.proofs.Passing.{start-passed, AddPasses, add-passed, add-passes, add-answers}
-use Rattle.keying.proofs.Leading.{Leads, leads-start, leads-same, leads-add, leads-sound, leads-edition, leads-tag, room-left}
 use Rattle.keying.proofs.Passing.{tag-answers, check-answers, same-passes, passes-both, passes-first, passes-second}
+use Rattle.keying.proofs.Leading.{Leads, leads-start, leads-same, leads-add, leads-sound, leads-edition, leads-tag, room-left}
+use Rattle.keying.proofs.Leading.{leads-lengths, leads-tagged, once-tagged}
 
 -- ---- at once
 
@@ -56,6 +58,10 @@ module _ (m : Made at-once.ended at-once-reads.Learnt) where
 
   abbrev room : List ℕ
   room = now (m .args .1 .1 .1 .0)
+
+  -- refused, it leaves the output
+  pub at-once-kept : 0 < numberOf (m .result) → now (exit m .1 .1 .1 .0) ≡ room
+  at-once-kept r = refused-leaves (m .learnt) r
 
   pub hmac-at-once : m .result ≡ Answer.Done → now (exit m .1 .1 .1 .0) ≡ atFront whole-tag room
   hmac-at-once d = done-leaves {r = m .result} (m .learnt) d
@@ -67,7 +73,7 @@ pub hmac-compared : (m : Made at-once-check.ended at-once-check-reads.Learnt) �
     let text = now (m .args .1 .1 .0) in
     first (lengthTests e (length key) (length text)) ≡ 0 →
     numberOf (m .result) ≡ cond (same (now (m .args .1 .1 .1 .0)) (hmac e key text)) 0 14
-hmac-compared m none = m .learnt ∙ check-first _ _ _ _ none _ refl
+hmac-compared m none = m .learnt ∙ check-first _ _ _ _ (lengths-passed _ _ _ none) _ refl
 
 -- ---- the calls in pieces
 
@@ -217,7 +223,7 @@ leads (started-by m d) =
     let e = m .args .0 in
     let key = now (m .args .1 .0) in
     let pass = start-passed e key (done-first {r = m .result .answer} (m .learnt .0) d) in
-    leads-same (leads-start e key (pass .ok) (m .learnt .1)) (done-leaves {r = m .result .answer} (m .learnt .0) d)
+    leads-same (leads-start e key pass (m .learnt .1)) (done-leaves {r = m .result .answer} (m .learnt .0) d)
 leads (added-by t m on d) =
     let l = leads-same (leads t) on in
     leads-same (leads-add l (piece m) (bytes m) (passes m d .within)) (leaves m d)
@@ -247,14 +253,15 @@ module _ {e : ℕ} {key all : List ℕ} {k : Keyed} (t : Taken e key all k) wher
         done-leaves {r = m .result} (m .learnt .0) d
         ∙ ap (λ (tag : List ℕ). atFront tag (now (m .args .1 .0))) (leads-tag (leads-same (leads t) on))
 
-    -- a tag at once of the same writes the same
+    -- a tag at once of the same answers and leaves the same
     pub pieces-at-once : (w : Made at-once.ended at-once-reads.Learnt) → w .args .0 ≡ e → now (w .args .1 .0) ≡ key →
-        now (w .args .1 .1 .0) ≡ all → now (w .args .1 .1 .1 .0) ≡ now (m .args .1 .0) → w .result ≡ Answer.Done → m .result ≡ Answer.Done →
-        now (exit m .1 .0) ≡ now (exit w .1 .1 .1 .0)
-    pieces-at-once w isE isKey isAll isOut d done =
-        hmac-pieces done
-        ∙ sym (hmac-at-once w d ∙ ap₂ atFront (ap₂ (λ (n : ℕ) (l : List ℕ). hmac n l (now (w .args .1 .1 .0))) isE isKey
-        ∙ ap (hmac e key) isAll) isOut)
+        now (w .args .1 .1 .0) ≡ all → now (w .args .1 .1 .1 .0) ≡ now (m .args .1 .0) →
+        (m .result ≡ w .result) × (now (exit m .1 .0) ≡ now (exit w .1 .1 .1 .0))
+    pieces-at-once w isE isKey isAll isOut =
+        let out = now (m .args .1 .0) in
+        answer-settled (m .result) (w .result)
+        (leads-tagged e key all out (leads-same (leads t) on) refl (m .learnt .0))
+        (once-tagged e key all out (leads-lengths (leads t)) isE isKey isAll isOut (w .learnt))
 
   -- a tag is accepted exactly where it is that of the joined message
   pub pieces-compared : (m : Made checking.ended checking-reads.Learnt) → m .args .0 ≡ k →

@@ -154,7 +154,7 @@ same-apart xs ys h = is-false (same xs ys) (λ e. h (same-eq xs ys e))
 pub same-lengths : (xs ys : List ℕ) → (length xs ≡ length ys → ⊥) → same xs ys ≡ false
 same-lengths xs ys h = same-apart xs ys (λ e. h (ap length e))
 
--- the loop: what is left from i of both decides
+-- the loop: what was found so far, and what is left from i of both, decide
 pub record Compared (xs ys : List ℕ) (found : Bool) (i : ℕ) : Type 0 where
   pub within : i ≤ length xs
   pub long : length xs ≡ length ys

@@ -14,14 +14,14 @@ use Rattle.fips.proofs.Editions.{digest-short}
 use Rattle.hmac.specs.Hmac.{hmac}
 use Rattle.hmac.proofs.Blocks.{length-hmac}
 use Rattle.keyed.specs.State.{tagRoom}
-use Rattle.keyed.specs.AtOnce.{lengthTests, checkTests}
+use Rattle.keyed.specs.AtOnce.{lengthTests, checkAtOnceTests}
 use Rattle.keyed.proofs.Adding.{front-tag}
-use Rattle.keyed.proofs.Judging.{lengths-stop, check-first, message-short}
+use Rattle.keyed.proofs.Judging.{lengths-passed, lengths-stop, check-first, message-short}
 use Rattle.keyed.proofs.at_once.check.Statement.{statement}
 use Rattle.keyed.proofs.at_once.check.Tie as tie
 
 returns : tie.Need-returns
-unfolding checkTests
+unfolding checkAtOnceTests
 returns c = lengths-stop _ _ _ _ (c .before .gate .ensures) (refuses (c .before .gate .result) (c .match .keys2))
 
 abbrev start : tie.After-enum-told → tie.Start
@@ -31,14 +31,14 @@ gated : (c : tie.After-enum-told) →
     first (lengthTests (start c .args .edition) (length (start c .args .key .now)) (length (start c .args .message .now))) ≡ 0
 gated c = sym (c .before .before .gate .ensures) ∙ ap numberOf (c .enum-told .given .1)
 
-array-share-prefix-made : tie.Need-array-share-prefix-made
-array-share-prefix-made c =
+array-share-prefix-whole : tie.Need-array-share-prefix-whole
+array-share-prefix-whole c =
     let d = c .before in
     let long : length (c .made .result) ≡ tagRoom = search needs in
     omega (arith, d .digest-bytes .ensures, digest-short (start (d .before) .args .edition))
 
 slice-aggregate-same-bytes : tie.Need-slice-aggregate-same-bytes
-slice-aggregate-same-bytes c = sym (length-take-le _ _ (array-share-prefix-made (c .before)))
+slice-aggregate-same-bytes c = sym (length-take-le _ _ (array-share-prefix-whole (c .before)))
 
 -- what is compared with
 compared : (c : tie.After-same-bytes) →
@@ -58,16 +58,18 @@ compared c =
 returns-2 : tie.Need-returns-2
 returns-2 c =
     let b = c .before in
-    sym (check-first _ _ _ _ (gated (b .before .before .before .before)) false (sym (compared b) ∙ not-true _ (c .if1 .taken)))
+    let pass = lengths-passed _ _ _ (gated (b .before .before .before .before)) in
+    sym (check-first _ _ _ _ pass false (sym (compared b) ∙ not-true _ (c .if1 .taken)))
 
 returns-3 : tie.Need-returns-3
 returns-3 c =
     let b = c .before in
-    sym (check-first _ _ _ _ (gated (b .before .before .before .before)) true (sym (compared b) ∙ not-false _ (c .if1 .left)))
+    let pass = lengths-passed _ _ _ (gated (b .before .before .before .before)) in
+    sym (check-first _ _ _ _ pass true (sym (compared b) ∙ not-false _ (c .if1 .left)))
 
 pub check-spec : {M : Type 1} → statement M
 check-spec =
     tie.close
     (tie.spec (λ c κs. search needs) (λ c. search needs) returns (λ c κs. search needs)
-    (λ c κs. message-short _ _ _ (gated (c .before))) array-share-prefix-made slice-aggregate-same-bytes (λ c κs. search needs)
+    (λ c κs. message-short _ _ _ (gated (c .before))) array-share-prefix-whole slice-aggregate-same-bytes (λ c κs. search needs)
     returns-2 returns-3)

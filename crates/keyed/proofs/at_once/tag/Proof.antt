@@ -15,14 +15,14 @@ use Rattle.slices.specs.AtFront.{atFront}
 use Rattle.fips.proofs.Editions.{digest-short}
 use Rattle.hmac.proofs.Blocks.{length-hmac}
 use Rattle.keyed.specs.State.{tagRoom}
-use Rattle.keyed.specs.AtOnce.{lengthTests, tagTests}
+use Rattle.keyed.specs.AtOnce.{lengthTests, tagAtOnceTests}
 use Rattle.keyed.proofs.Adding.{front-tag}
 use Rattle.keyed.proofs.Judging.{message-short}
 use Rattle.keyed.proofs.at_once.tag.Statement.{statement}
 use Rattle.keyed.proofs.at_once.tag.Tie as tie
 
 returns : tie.Need-returns
-unfolding tagTests
+unfolding tagAtOnceTests
 returns c = stopped (lengthTests _ _ _) _ (c .before .gate .ensures) (refuses (c .before .gate .result) (c .match .keys2)) refl
 
 abbrev start : tie.After-enum-told → tie.Start
@@ -33,7 +33,7 @@ gated : (c : tie.After-enum-told) →
 gated c = sym (c .before .before .gate .ensures) ∙ ap numberOf (c .enum-told .given .1)
 
 returns-2 : tie.Need-returns-2
-unfolding tagTests first
+unfolding tagAtOnceTests first
 returns-2 c =
     let d = c .before in
     went-on (lengthTests _ _ _) _ tt (gated (d .before)) (refused (rw (← d .digest-bytes .ensures, lt-ltb _ _ (c .if1 .taken))) tt refl)
@@ -48,7 +48,7 @@ slice-aggregate-put-front : tie.Need-slice-aggregate-put-front
 slice-aggregate-put-front c = sym (length-take-le _ _ (array-share-prefix-tag (c .before)))
 
 returns-3 : tie.Need-returns-3
-unfolding tagTests first
+unfolding tagAtOnceTests first
 returns-3 c =
     let p = c .before .before in
     let t = p .before .before .before in
