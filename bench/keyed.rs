@@ -15,8 +15,7 @@ use std::time::Duration;
 const SLICE: usize = 1 << 20;
 const SLICES: usize = 16;
 const PIECE: usize = 4096;
-const WORDS: usize = 35;
-const TABLE: usize = 31; // words of a table of one bay
+const WORDS: usize = 34;
 const KEY: usize = 32; // bytes
 const LIMIT: f64 = 1.03;
 
@@ -52,7 +51,7 @@ fn keyed_share(words: &mut [u64; WORDS], edition: u64, key: &[u8], data: &[u8], 
 }
 
 /// A slice's share of a bay.
-fn bay_share(table: &mut [u64; TABLE], edition: u64, data: &[u8], slice: usize, out: &mut [u8]) {
+fn bay_share(table: &mut [u64; 30], edition: u64, data: &[u8], slice: usize, out: &mut [u8]) {
     let (t, n) = (table.as_mut_ptr(), table.len());
     if slice == 0 {
         done("open", unsafe { dw_open(t, n, 0, edition) });
@@ -93,7 +92,7 @@ fn median(times: &mut [Duration]) -> f64 {
 
 /// Measures both ways, and answers the ratio.
 fn in_pieces(name: &str, edition: u64, size: usize, turns: usize, key: &[u8], data: &[u8]) -> f64 {
-    let (mut words, mut table, mut made, mut digest) = ([0u64; WORDS], [0u64; TABLE], [0u8; 64], [0u8; 64]);
+    let (mut words, mut table, mut made, mut digest) = ([0u64; WORDS], [0u64; 30], [0u8; 64], [0u8; 64]);
     let mut times = [vec![vec![]; SLICES], vec![vec![]; SLICES]];
     done("lay out", unsafe { dw_lay_out(table.as_mut_ptr(), table.len(), 1) });
     for turn in 0..turns {

@@ -7,8 +7,6 @@ use clock::timed;
 use message::message;
 use std::time::Duration;
 
-const WORDS: usize = 31; // of a table of one bay
-
 extern "C" {
     // crate capi; a slice is a pointer and a length
     fn dw_hash(edition: u64, message: *const u8, count: usize, closing: u8, bits: u64, out: *mut u8, room: usize) -> u64;
@@ -23,7 +21,7 @@ fn dwombarine(edition: u64, message: &[u8], out: &mut [u8]) {
 }
 
 /// The whole message through a bay, in pieces of that size.
-fn in_pieces(size: usize, edition: u64, message: &[u8], table: &mut [u64; WORDS]) {
+fn in_pieces(size: usize, edition: u64, message: &[u8], table: &mut [u64; 30]) {
     let numbers = unsafe {
         [
             dw_lay_out(table.as_mut_ptr(), table.len(), 1),
@@ -89,7 +87,7 @@ fn main() {
     report("SHA-512", us, rust, data.len(), race(turns, || dwombarine(4, &data, &mut out), || keep(&plain::sha512(&data))));
 
     let (once, pieces) = ("the whole at once", "each piece at once");
-    let (mut table, mut other) = ([0u64; WORDS], [0u8; 64]);
+    let (mut table, mut other) = ([0u64; 30], [0u8; 64]);
     // whole blocks, one byte less than them, and a length that begins and ends inside a block
     for size in [4096, 4095, 1000, 100] {
         let adds = format!("adds of {size} bytes");

@@ -50,7 +50,7 @@ static void add_from(FILE *file, const char *name, uint64_t *table, uint64_t mos
 /* Reads half of the file and leaves the record of that; answers the record's length. */
 static size_t first_half(const char *name, uint64_t *table, uint8_t *record, size_t room)
 {
-    uint64_t edition, high, low; /* the length is counted in bits */
+    uint64_t edition, count;
     FILE *file = fopen(name, "rb");
     check_system(name, file != NULL);
     check_system(name, fseek(file, 0, SEEK_END) == 0);
@@ -62,24 +62,23 @@ static size_t first_half(const char *name, uint64_t *table, uint8_t *record, siz
     check("open", dw_open(table, WORDS, BAY, DW_SHA256));
     /* an odd count ends inside a block, so the record also holds the beginning of that block */
     add_from(file, name, table, (uint64_t)size / 2 | 1);
-    check("ask", dw_ask(table, WORDS, BAY, &edition, &high, &low));
+    check("ask", dw_ask(table, WORDS, BAY, &edition, &count));
     check("save", dw_save(table, WORDS, BAY, record, room));
     fclose(file);
-    return (size_t)DW_RECORD_BYTES(edition, low);
+    return (size_t)DW_RECORD_BYTES(edition, count);
 }
 
 /* Goes on from the record to the end of the file and leaves the digest. */
 static void second_half(const char *name, uint64_t *table, const uint8_t *record, size_t length, uint8_t *digest)
 {
-    uint64_t edition, high, low; /* the length is counted in bits */
+    uint64_t edition, count;
     check("lay out", dw_lay_out(table, WORDS, 1));
     check("load", dw_load(table, WORDS, BAY, record, length));
-    check("ask", dw_ask(table, WORDS, BAY, &edition, &high, &low));
+    check("ask", dw_ask(table, WORDS, BAY, &edition, &count));
 
     FILE *file = fopen(name, "rb");
     check_system(name, file != NULL);
-    /* a file has fewer than 2^61 bytes, so high is 0 */
-    check_system(name, fseek(file, (long)(low / 8), SEEK_SET) == 0);
+    check_system(name, fseek(file, (long)count, SEEK_SET) == 0);
     add_from(file, name, table, UINT64_MAX);
     fclose(file);
     check("close", dw_close(table, WORDS, BAY, 0, 0, digest, DIGEST));

@@ -16,16 +16,16 @@ mod dwombarine {
         fn dw_close(table: *mut u64, words: usize, bay: u64, closing: u8, bits: u64, out: *mut u8, out_n: usize) -> u64;
         fn dw_save(table: *const u64, words: usize, bay: u64, out: *mut u8, out_n: usize) -> u64;
         fn dw_load(table: *mut u64, words: usize, bay: u64, record: *const u8, n: usize) -> u64;
-        fn dw_ask(table: *const u64, words: usize, bay: u64, edition: *mut u64, high: *mut u64, low: *mut u64) -> u64;
+        fn dw_ask(table: *const u64, words: usize, bay: u64, edition: *mut u64, count: *mut u64) -> u64;
         fn dw_answer_text(number: u64) -> *const c_char;
     }
 
     pub const SHA256: u64 = 2;
-    const LONGEST_RECORD: usize = 223;
+    const LONGEST_RECORD: usize = 215;
 
     /// How many words a table of that many bays takes.
     pub const fn table_words(bays: usize) -> usize {
-        4 + 27 * bays
+        4 + 26 * bays
     }
 
     /// The number of a refused call, 1 to 14. The call has changed nothing.
@@ -87,7 +87,7 @@ mod dwombarine {
         pub fn save(&self, bay: u64) -> Result<Vec<u8>, Refused> {
             let mut record = vec![0; LONGEST_RECORD];
             done(unsafe { dw_save(self.words.as_ptr(), self.words.len(), bay, record.as_mut_ptr(), record.len()) })?;
-            record.truncate(u16::from_be_bytes([record[26], record[27]]).into());
+            record.truncate(u16::from_be_bytes([record[18], record[19]]).into());
             Ok(record)
         }
 
@@ -96,11 +96,11 @@ mod dwombarine {
             done(unsafe { dw_load(self.words.as_mut_ptr(), self.words.len(), bay, record.as_ptr(), record.len()) })
         }
 
-        /// The bay's edition and the bits taken, both 0 for an empty bay.
-        pub fn ask(&self, bay: u64) -> Result<(u64, u128), Refused> {
-            let (mut edition, mut high, mut low) = (0, 0, 0);
-            done(unsafe { dw_ask(self.words.as_ptr(), self.words.len(), bay, &mut edition, &mut high, &mut low) })?;
-            Ok((edition, u128::from(high) << 64 | u128::from(low)))
+        /// The bay's edition and the count of bytes taken, both 0 for an empty bay.
+        pub fn ask(&self, bay: u64) -> Result<(u64, u64), Refused> {
+            let (mut edition, mut count) = (0, 0);
+            done(unsafe { dw_ask(self.words.as_ptr(), self.words.len(), bay, &mut edition, &mut count) })?;
+            Ok((edition, count))
         }
     }
 }
@@ -146,9 +146,9 @@ fn first_half(name: &Path, table: &mut Table) -> Result<Vec<u8>, Box<dyn Error>>
 /// Goes on from the record to the end of the file and answers the digest.
 fn second_half(name: &Path, table: &mut Table, record: &[u8]) -> Result<[u8; 32], Box<dyn Error>> {
     table.load(BAY, record)?;
-    let (_edition, bits) = table.ask(BAY)?;
+    let (_edition, count) = table.ask(BAY)?;
     let mut file = File::open(name)?;
-    file.seek(SeekFrom::Start(u64::try_from(bits / 8)?))?;
+    file.seek(SeekFrom::Start(count))?;
     add_from(&mut file, table, u64::MAX)?;
     let mut digest = [0; 32];
     table.close(BAY, &mut digest)?;

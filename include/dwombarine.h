@@ -3,14 +3,14 @@
  * A message in pieces, saved halfway and finished from its record in another bay, as after a restart, or on another machine. Each call here
  * answers DW_DONE; a program asks whether it did.
  *
- *    uint64_t table[DW_TABLE_WORDS(2)], edition, high, low;
+ *    uint64_t table[DW_TABLE_WORDS(2)], edition, count;
  *    uint8_t record[DW_LONGEST_RECORD], digest[DW_DIGEST_BYTES(DW_SHA256)];
  *    dw_lay_out(table, DW_TABLE_WORDS(2), 2);                                           // two bays, over memory that held anything
  *    dw_open(table, DW_TABLE_WORDS(2), 0, DW_SHA256);
  *    dw_add(table, DW_TABLE_WORDS(2), 0, (const uint8_t *)"carrier 4, ", 11);
- *    dw_ask(table, DW_TABLE_WORDS(2), 0, &edition, &high, &low);                        // SHA-256, of which 88 bits, 11 bytes, are taken
+ *    dw_ask(table, DW_TABLE_WORDS(2), 0, &edition, &count);                             // SHA-256, of which 11 bytes are taken
  *    dw_save(table, DW_TABLE_WORDS(2), 0, record, sizeof record);                       // the record is shorter than its room
- *    dw_load(table, DW_TABLE_WORDS(2), 1, record, DW_RECORD_BYTES(edition, low));
+ *    dw_load(table, DW_TABLE_WORDS(2), 1, record, DW_RECORD_BYTES(edition, count));
  *    dw_add(table, DW_TABLE_WORDS(2), 1, (const uint8_t *)"row 12", 6);
  *    dw_close(table, DW_TABLE_WORDS(2), 1, 0, 0, digest, sizeof digest);                // the digest of "carrier 4, row 12"
  *
@@ -21,17 +21,18 @@
  *
  * Memory: the caller owns all of it and lends it for the length of the call. Nothing is allocated, and no pointer is kept. A pointer comes
  * with its count of elements; what a call writes overlaps nothing else that is lent to it. A refused call (not 0) writes nothing to a
- * table, a stream, a keyed hash, an output or a list's buffer; ask then sets its three values to 0, and lookup its two. Digests, tags,
- * records, roots and lists are written at the front of the output, and the bytes behind them stay as they were. A table, a stream and a
- * keyed hash are aligned as uint64_t is, and so are these values; bytes need no alignment.
+ * table, a stream, a keyed hash, an output or a list's buffer; ask and lookup then set their two values to 0. Digests, tags, records, roots
+ * and lists are written at the front of the output, and the bytes behind them stay as they were. A table, a stream and a keyed hash are
+ * aligned as uint64_t is, and so are the two values; bytes need no alignment.
  *
  * Null: no pointer may be null, not even that of an empty buffer. Where the count is 0, pass the address of anything.
  *
- * Stack: dw_tree takes up to 36,816 bytes of it, dw_stream_add 11,440, dw_stream_root 7,872, dw_stream_begin 4,224, dw_keyed_add 3,552,
- * dw_check_tag 3,504, dw_tag 3,488, dw_keyed_tag 3,456, dw_keyed_check 3,456, dw_keyed_start 2,944, dw_add 2,896, dw_close 2,864,
- * dw_hash 2,576, dw_load 1,784, dw_save 1,296, dw_ask 1,160, dw_open 800, dw_judge 456, dw_lookup 440, dw_list_put 408, dw_drop 160,
- * dw_list_start 32 and dw_lay_out 32: measured on x86-64 and on Arm, the larger of both. A thread with a small stack has to have as much to
- * spare; four macros below have it in round numbers.
+ * Stack: dw_tree takes up to 36,784 bytes of it, dw_stream_add 11,440, dw_stream_root 7,840, dw_stream_begin 4,224, dw_check_tag 3,504,
+ * dw_tag 3,488, dw_keyed_add 3,504, dw_keyed_tag 3,424, dw_keyed_check 3,424, dw_keyed_start 2,928, dw_add 2,896, dw_close 2,816,
+ * dw_hash 2,512, dw_load 1,720, dw_save 1,280, dw_ask 1,144, dw_open 768, dw_judge 456, dw_lookup 440, dw_list_put 408, dw_drop 160,
+ * dw_list_start 32 and dw_lay_out 32: measured on x86-64 and on Arm, the larger of both, but those of the calls with a key, of dw_add,
+ * dw_load, dw_judge and dw_lookup on x86-64 alone. A thread with a small stack has to have as much to spare; four macros below have it in
+ * round numbers.
  *
  * Threads: nothing is kept between calls but what stands in a table, in a stream, in a keyed hash, or in a buffer with a list. Calls on
  * different tables, streams or keyed hashes, and calls on none, may run at once, each with outputs of its own, and a buffer in which a list
@@ -46,14 +47,9 @@
  * Machines: a record, a list and a tag mean the same on every machine. A table, a stream and a keyed hash belong to the machine they were
  * made on: their words are in that machine's own byte order. size_t must have 64 bits, which is checked below.
  *
- * Lengths: the length of a message is counted in bits, eight to a byte, in two words, the higher first, which make high * 2^64 + low. The
- * standard takes fewer than 2^64 bits in SHA-224 and SHA-256 and fewer than 2^128 in the others; more are DW_TOO_LONG. Closing bits never
- * are: before them a length is a multiple of eight.
- *
  * Versions: until 1.0 the second number of DW_VERSION grows whenever a signature, a number or a size of this header changes, or what a call
  * makes of the same bytes, and the name by which the shared library is loaded with it. So a program that was compiled with another header
- * does not start with it. Records that were saved before 0.6 load as what they were. Tables and keyed hashes from before it are no longer
- * any: what is in them has to be saved, or ended, by the library that made them.
+ * does not start with it.
  *
  * Linking: the library needs memcpy and memset of the C library, and nothing else.
  *
@@ -73,7 +69,7 @@
 extern "C" {
 #endif
 
-#define DW_VERSION "0.6.0"
+#define DW_VERSION "0.5.0"
 
 /* the library takes every count as 64 bits: where size_t has not so many, this does not compile */
 typedef char dw_size_t_has_64_bits[sizeof(size_t) == 8 ? 1 : -1];
@@ -117,16 +113,15 @@ enum dw_edition {
 #define DW_DIGEST_BYTES(edition) \
     ((edition) == 1 || (edition) == 5 ? 28 : (edition) == 2 || (edition) == 6 ? 32 : (edition) == 3 ? 48 : (edition) == 4 ? 64 : 0)
 /* words, and bytes, of a table of n bays, n from 1 to 64; words behind them are the caller's and never change */
-#define DW_TABLE_WORDS(n) (4 + 27 * (n))
+#define DW_TABLE_WORDS(n) (4 + 26 * (n))
 #define DW_TABLE_BYTES(n) (8 * DW_TABLE_WORDS(n))
-/* bytes of a bay's record, over the edition and the lower word of the length, which counts bits, as dw_ask tells both; 0 where it tells of
- * an empty bay, which has none */
-#define DW_RECORD_BYTES(edition, low) \
-    ((edition) == 1 || (edition) == 2 ? 64 + (low) / 8 % 64 : (edition) >= 3 && (edition) <= 6 ? 96 + (low) / 8 % 128 : 0)
+/* bytes of a bay's record, over the edition and the count that dw_ask tells; 0 where it tells of an empty bay, which has none */
+#define DW_RECORD_BYTES(edition, count) \
+    ((edition) == 1 || (edition) == 2 ? 56 + (count) % 64 : (edition) >= 3 && (edition) <= 6 ? 88 + (count) % 128 : 0)
 /* the longest digest, and tag, the longest record, the root of a tree, and the longest map that a tree is made of; the longest list, which
  * is 16 + 256 * (8 + 64 + 64) bytes: a header, and 256 times an entry's two numbers, the longest digest and the longest name */
 #define DW_LONGEST_DIGEST 64
-#define DW_LONGEST_RECORD 223
+#define DW_LONGEST_RECORD 215
 #define DW_ROOT_BYTES 32
 #define DW_LONGEST_MAP 1048576
 #define DW_LONGEST_LIST 34832
@@ -134,7 +129,7 @@ enum dw_edition {
 #define DW_STREAM_WORDS 258
 #define DW_LONGEST_STREAM ((uint64_t)1 << 42)
 /* words of a keyed hash; words behind them are the caller's and never change */
-#define DW_KEYED_WORDS 35
+#define DW_KEYED_WORDS 34
 /* bytes of the list that a buffer has at its front, a size_t: a list tells its own length in its bytes 12 to 15, most significant first. Of
  * bytes that are no list it reads whatever stands there; a buffer of fewer than 16 bytes has no such bytes, and no list. So it is for a
  * buffer on which a start or a put was done, or to be compared with the buffer's bytes first: of other bytes it may say more than there
@@ -147,8 +142,8 @@ enum dw_edition {
 #define DW_KEYED_STACK 4000
 #define DW_STACK 3000
 
-/* For a whole message at hand: the digest of n bytes and of the upper `bits` bits (0 to 7) of `closing`, whose other bits are 0. A message
- * of whole bytes has 0 and 0 there. 7 in SHA-224 and SHA-256 alone, from 2^61 bytes on. 5, 7, 8, 9. */
+/* For a whole message at hand: the digest of n bytes, at most 2^40, and of the upper `bits` bits (0 to 7) of `closing`, whose other bits
+ * are 0. A message of whole bytes has 0 and 0 there. 5, 7, 8, 9. */
 uint64_t dw_hash(uint64_t edition, const uint8_t *message, size_t n, uint8_t closing, uint64_t bits, uint8_t *out, size_t out_n);
 
 /* To begin with: makes a table of that many empty bays, over memory that held anything. 11. */
@@ -157,25 +152,21 @@ uint64_t dw_lay_out(uint64_t *table, size_t words, uint64_t bays);
 /* To begin a message, in an empty bay; bays are counted from 0. 1, 2, 5, 6, 3. */
 uint64_t dw_open(uint64_t *table, size_t words, uint64_t bay, uint64_t edition);
 
-/* For each piece of the message, of any length: takes n bytes more. 7 where all bits taken, with these 8 * n, would be 2^64 or more in
- * SHA-224 and SHA-256, 2^128 or more in the others. 1, 2, 6, 4, 7. */
+/* For each piece of the message, of any length, 2^40 bytes in all: takes n bytes more. 1, 2, 6, 4, 7. */
 uint64_t dw_add(uint64_t *table, size_t words, uint64_t bay, const uint8_t *piece, size_t n);
 
 /* To end it: writes the digest of all bytes taken and of the closing bits, as for dw_hash, and empties the bay. 1, 2, 6, 4, 8, 9. */
 uint64_t dw_close(uint64_t *table, size_t words, uint64_t bay, uint8_t closing, uint64_t bits, uint8_t *out, size_t out_n);
 
-/* To go on after a restart, or elsewhere: writes the bay's record, of DW_RECORD_BYTES bytes, which is also what its bytes 26 and 27 say,
+/* To go on after a restart, or elsewhere: writes the bay's record, of DW_RECORD_BYTES bytes, which is also what its bytes 18 and 19 say,
  * most significant first; the bay stays as it is. 1, 2, 6, 4, 9. */
 uint64_t dw_save(const uint64_t *table, size_t words, uint64_t bay, uint8_t *out, size_t out_n);
 
-/* To go on from a record: puts what was saved into an empty bay; n is exactly the record's length. A record from before 0.6 has 24 in its
- * bytes 4 and 5, where those of today have 32, and says its length in its bytes 18 and 19. It is judged as it was then, and loads as the
- * message that it was; it is saved again in today's form. 1, 2, 10, 6, 3. */
+/* To go on from a record: puts what was saved into an empty bay; n is exactly the record's length. 1, 2, 10, 6, 3. */
 uint64_t dw_load(uint64_t *table, size_t words, uint64_t bay, const uint8_t *record, size_t n);
 
-/* To know how far a message is, as after a load: tells the bay's edition and the bits taken, high * 2^64 + low, all three 0 for an empty
- * bay. Of fewer than 2^61 bytes high is 0, and low / 8 are the bytes. 1, 2, 6. */
-uint64_t dw_ask(const uint64_t *table, size_t words, uint64_t bay, uint64_t *edition, uint64_t *high, uint64_t *low);
+/* To know how far a message is, as after a load: tells the bay's edition and the bytes taken, both 0 for an empty bay. 1, 2, 6. */
+uint64_t dw_ask(const uint64_t *table, size_t words, uint64_t bay, uint64_t *edition, uint64_t *count);
 
 /* To give a message up: empties a bay that has a word other than 0, a damaged one too. 1, 2, 4. */
 uint64_t dw_drop(uint64_t *table, size_t words, uint64_t bay);
@@ -208,8 +199,8 @@ uint64_t dw_stream_add(uint64_t *stream, size_t words, const uint8_t *piece, siz
 uint64_t dw_stream_root(const uint64_t *stream, size_t words, uint8_t *out, size_t out_n);
 
 /* For a whole message and a key at hand: writes the tag, which is HMAC by FIPS 198-1, of DW_DIGEST_BYTES(edition) bytes. The key has any
- * length, 0 too; a key longer than the edition's block, of 64 bytes in SHA-224 and SHA-256 and 128 in the others, is hashed first. 7 in
- * SHA-224 and SHA-256 alone, where the key, or a block and the message, has 2^61 bytes or more. 5, 7, 9. */
+ * length, 0 too, up to 2^40 bytes; a key longer than the edition's block, of 64 bytes in SHA-224 and SHA-256 and 128 in the others, is
+ * hashed first. The message has at most 2^40 bytes less a block. 5, 7, 9. */
 uint64_t dw_tag(uint64_t edition, const uint8_t *key, size_t key_n, const uint8_t *message, size_t n, uint8_t *out, size_t out_n);
 
 /* To hold a tag against a message: 0 where it is the tag, whole and byte for byte; else 14, for a front of it too. 5, 7, 14. */
@@ -224,14 +215,13 @@ uint64_t dw_check_tag(uint64_t edition, const uint8_t *key, size_t key_n, const 
  *        dw_keyed_add(keyed, DW_KEYED_WORDS, piece, n);
  *    dw_keyed_tag(keyed, DW_KEYED_WORDS, tag, DW_DIGEST_BYTES(DW_SHA256));
  *
- * Words 0 to 26 are those of a taken bay: the edition; the bits taken, of which the first block is the key's, in two words, the higher
- * first; eight chaining words; and the bytes after the last whole block, most significant first, with zeros behind them. Words 27 to 34 are
- * the outer hash's chaining words after its block of the key. Sound are words that keep the rules of a taken bay, with a block or more
- * taken, and outer words below 2^32 in SHA-224 and SHA-256; whether a key leads to them is not judged. To put a keyed hash aside is to copy
- * its words. */
+ * Words 0 to 25 are those of a taken bay: the edition, the bytes taken, of which the first block is the key's, eight chaining words, and
+ * the bytes after the last whole block, most significant first, with zeros behind them. Words 26 to 33 are the outer hash's chaining words
+ * after its block of the key. Sound are words that keep the rules of a taken bay, with a block or more taken, and outer words below 2^32 in
+ * SHA-224 and SHA-256; whether a key leads to them is not judged. To put a keyed hash aside is to copy its words. */
 uint64_t dw_keyed_start(uint64_t *keyed, size_t words, uint64_t edition, const uint8_t *key, size_t key_n);
 
-/* For each piece of the message, of any length: takes n bytes more. 7 as of dw_add, the key's block counted. 6, 7. */
+/* For each piece of the message, of any length: takes n bytes more, 2^40 in all with the key's block. 6, 7. */
 uint64_t dw_keyed_add(uint64_t *keyed, size_t words, const uint8_t *piece, size_t n);
 
 /* For the tag of all bytes taken so far. The keyed hash stays as it is, and may go on. 6, 9. */

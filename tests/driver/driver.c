@@ -25,17 +25,16 @@
  *   52 keyed tag      run, output                        53 keyed check  run, lent tag
  *
  * A run is the place of its first word and its count of words. Lent is a count n and n bytes; but more than FAR bytes do not follow: the
- * call is lent n zeros then; and where n is more than ZEROS, which no memory has, it is told of n bytes that cannot be read, so that a call
- * that reads one of them ends the driver. Output is a count of at most OUTPUT bytes and a number f: counted from the beginning of the guard
- * before it, byte i of the output and its guards is (f + i) mod 256 before the call. A buffer, which is read and written, is a count n and
- * n bytes; but of more than BUFFER bytes only BUFFER follow: behind these the buffer has the bytes of a guard, and zeros. The count KEPT is
- * for the buffer of a call before in this batch, as it was left and where it lies. Lent bytes, outputs and buffers lie anywhere: the first
- * of a call s mod 16 bytes past a multiple of 16, where s is the number of shifts, the second s / 16 mod 16, and so on.
+ * call is lent n zeros then. Output is a count of at most OUTPUT bytes and a number f: counted from the beginning of the guard before it,
+ * byte i of the output and its guards is (f + i) mod 256 before the call. A buffer, which is read and written, is a count n and n bytes;
+ * but of more than BUFFER bytes only BUFFER follow: behind these the buffer has the bytes of a guard, and zeros. The count KEPT is for the
+ * buffer of a call before in this batch, as it was left and where it lies. Lent bytes, outputs and buffers lie anywhere: the first of a
+ * call s mod 16 bytes past a multiple of 16, where s is the number of shifts, the second s / 16 mod 16, and so on.
  *
- * The answer to a call is its number, 0 for a part of a tree, which has none; for ask its three values, and for lookup its two; for a call
- * with an output the GUARD bytes before it, the output and the GUARD bytes after it, and for one with a buffer likewise, but at most BUFFER
- * of its bytes; the count of bytes lent to be read, with the guards about them, that are not as they were; and the count of words of the
- * memory that are not as they were before the call, each with its place and its value.
+ * The answer to a call is its number, 0 for a part of a tree, which has none; for ask and lookup their two values; for a call with an
+ * output the GUARD bytes before it, the output and the GUARD bytes after it, and for one with a buffer likewise, but at most BUFFER of its
+ * bytes; the count of bytes lent to be read, with the guards about them, that are not as they were; and the count of words of the memory
+ * that are not as they were before the call, each with its place and its value.
  *
  * A command that cannot be done ends the driver with status 3: then the sender is at fault.
  */
@@ -55,7 +54,6 @@ _Noreturn void _exit(int status);
 
 enum { WORDS = 4096, GUARD = 64, OUTPUT = 1024, BUFFER = 36 << 10, FAR = 2 << 20, BATCH = 32 << 20, ANSWERS = 32 << 20 };
 enum { LENT = 3, ALIGNED = 16 };
-#define ZEROS ((uint64_t)1 << 41)
 #define KEPT (~(uint64_t)0)
 
 static uint8_t batch[BATCH], answers[ANSWERS];
@@ -87,7 +85,7 @@ static uint8_t *buffer; /* with its guards; NULL where none was lent in this bat
 static size_t buffer_n;
 static int has_buffer;
 
-static uint64_t told_edition, told_high, told_low;
+static uint64_t told_edition, told_count;
 static size_t told_at, told_length;
 
 static _Noreturn void give_up(const char *why) {
@@ -146,15 +144,6 @@ static uint8_t *zeros(struct zeros *these, size_t n, size_t front) {
   return these->at;
 }
 
-/* The place of bytes that cannot be read, nor can any about it: the last of 2^64 - 1 bytes from here lies before it. */
-static const uint8_t *nowhere(void) {
-  enum { NONE = 0, PRIVATE = 2, ANONYMOUS = 32, NORESERVE = 0x4000, ABOUT = 1 << 24 };
-  static uint8_t *at;
-  if (!at) at = mmap(NULL, 2 * ABOUT, NONE, PRIVATE | ANONYMOUS | NORESERVE, -1, 0);
-  if (at == (void *)-1) give_up("no room for bytes that cannot be read");
-  return at + ABOUT;
-}
-
 /* What stands before and behind bytes that are lent: no two of these are alike, so that bytes moved within a guard are seen. */
 static uint8_t guards[2 * GUARD];
 
@@ -166,7 +155,6 @@ static const uint8_t *lend(size_t *n) {
   static struct zeros read_only;
   *n = number();
   size_t by = shift();
-  if (*n > ZEROS) return nowhere() + by;
   if (*n > FAR) return zeros(&read_only, by + *n, 0) + by;
   uint8_t *place = lent[lents].place = lent[lents].room + by;
   const uint8_t *from = lent[lents].from = take(*n);
@@ -260,7 +248,7 @@ static uint64_t call_on_table(uint8_t which) {
       const uint8_t *record = lend(&n);
       return dw_load(run, run_n, bay, record, n);
     }
-    case 16: return dw_ask(run, run_n, bay, &told_edition, &told_high, &told_low);
+    case 16: return dw_ask(run, run_n, bay, &told_edition, &told_count);
     case 17: return dw_drop(run, run_n, bay);
     default: give_up("no such command");
   }
@@ -409,12 +397,11 @@ static void answer_words_changed(void) {
 static void call(uint8_t which) {
   lents = has_output = has_buffer = 0;
   shifts = number();
-  told_edition = told_high = told_low = told_at = told_length = 0x5a5a5a5a5a5a5a5a;
+  told_edition = told_count = told_at = told_length = 0x5a5a5a5a5a5a5a5a;
   answer_number(call_made(which));
   if (which == 16) {
     answer_number(told_edition);
-    answer_number(told_high);
-    answer_number(told_low);
+    answer_number(told_count);
   }
   if (which == 23) {
     answer_number(told_at);

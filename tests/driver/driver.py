@@ -15,7 +15,6 @@ from pathlib import Path
 ROOT = Path(__file__).resolve().parents[2]
 GUARD, GUARD_WORDS = 64, 64  # bytes before and after an output, words before and after the run
 FAR = 2 << 20  # more bytes than this are sent as their count
-ZEROS = 1 << 41  # more bytes than this, which no memory has, cannot be read
 BUFFER = 36 << 10  # bytes of a buffer that are sent and answered
 ALIGNED = 16  # bytes are lent up to so many past a multiple of it
 BATCH = 4 << 20  # bytes of commands and replies after which a batch is sent; the driver has room for far more of either
@@ -53,7 +52,7 @@ CALLS = {
 PARTS = dict(leaf=(30, ("bytes", "out")), parent=(31, ("left", "right", "out")), level=(32, ("buffer",)))
 SIGNATURES = CALLS | PARTS
 LENT = {"piece", "record", "message", "map", "list", "name", "digest", "bytes", "left", "right", "key", "tag"}
-TELLING = {"ask": ("edition", "high", "low"), "lookup": ("at", "len")}
+TELLING = {"ask": ("edition", "count"), "lookup": ("at", "len")}
 
 number, two_numbers = struct.Struct("<Q").pack, struct.Struct("<QQ").pack
 NOTHING = number(0)
@@ -67,8 +66,8 @@ KEPT = 2**64 - 1
 
 class Call(namedtuple("Call", "name args shifts")):
     """One call: an output is its count of bytes and the first byte of its pattern; a buffer is bytes, Kept or Far; what else is lent is
-    bytes, or a count past FAR: of zeros up to ZEROS, and past that of bytes that cannot be read, which is for a call that is to read none.
-    How far the bytes and the output lie past a multiple of ALIGNED are the digits of `shifts`, the lowest first."""
+    bytes, or a count of zeros past FAR. How far the bytes and the output lie past a multiple of ALIGNED are the digits of `shifts`, the
+    lowest first."""
 
     __slots__ = ()
 
@@ -106,22 +105,13 @@ class Call(namedtuple("Call", "name args shifts")):
             return min(buffer_size(fields["buffer"]), BUFFER)
         return fields["out"][0] if "out" in fields else None
 
-    def reads(self, answer):
-        """Whether a call that so answers has looked at what it was lent; keyed start takes the key before it answers 9."""
-        return answer in (0, 10, 12, 13, 14) or (self.name, answer) == ("keyed_start", 9)
-
-    def unreadable(self):
-        return any(field in LENT and isinstance(value, int) and value > ZEROS for field, value in self.fields())
-
-    def reply(self, answer, values=None, wrote=b"", changes=NOTHING, left=b""):
-        """What the driver must answer: the number, the values where the call tells some, zeros where none are given, the output with these
-        bytes at its front and its guards, the buffer as it is left and its guards, no change of what was lent to be read, and the changes
-        of words, none if the call is lent none."""
-        if self.reads(answer) and self.unreadable():
-            raise GaveUp(f"bytes that cannot be read are lent to a call that reads them: {self}")
+    def reply(self, answer, values=(0, 0), wrote=b"", changes=NOTHING, left=b""):
+        """What the driver must answer: the number, the values where the call tells some, the output with these bytes at its front and its
+        guards, the buffer as it is left and its guards, no change of what was lent to be read, and the changes of words, none if the call
+        is lent none."""
         parts = [number(answer)]
         if self.name in TELLING:
-            parts += map(number, values or (0,) * len(TELLING[self.name]))
+            parts.append(two_numbers(*values))
         out = self.out()
         if out is not None:
             count, fill = out
@@ -144,17 +134,12 @@ class Call(namedtuple("Call", "name args shifts")):
             elif isinstance(value, Far):
                 shown.append(f"buffer of {short_number(value.n)} bytes, at its front {short_bytes(value.front)}")
             elif isinstance(value, int):
-                shown.append(f"{field} {short_number(value)}" + (unsent(value) if field in LENT else ""))
+                shown.append(f"{field} {short_number(value)}" + (" zeros" if field in LENT else ""))
             else:
                 shown.append(f"{field} {short_bytes(value)}")
             if alignments.get(field) and not isinstance(value, Kept):
                 shown[-1] += f" at {alignments[field]} mod {ALIGNED}"
         return f"{'part' if self.name in PARTS else 'dw'}_{self.name}({', '.join(shown)})"
-
-
-def unsent(n):
-    """What lent bytes are that are sent as their count."""
-    return " bytes that cannot be read" if n > ZEROS else " zeros"
 
 
 def buffer_size(buffer):
@@ -270,9 +255,8 @@ def read_reply(call, data, at):
     result, values, out = struct.unpack_from("<Q", data, at)[0], None, None
     at += 8
     if call.name in TELLING:
-        count = len(TELLING[call.name])
-        values = struct.unpack_from(f"<{count}Q", data, at)
-        at += 8 * count
+        values = struct.unpack_from("<QQ", data, at)
+        at += 16
     if call.room() is not None:
         length = GUARD + call.room() + GUARD
         out = data[at : at + length]

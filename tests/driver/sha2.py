@@ -5,27 +5,12 @@ import math
 import struct
 from collections import namedtuple
 
-BAY = 27  # "The table of bays": words
-WORD = 2**64  # a length in bits is two words of it, the higher first
+LONGEST = 2**40  # "Padding": c is at most this
+BAY = 26  # "The table of bays": words
 HASHLIB = {1: "sha224", 2: "sha256", 3: "sha384", 4: "sha512", 5: "sha512_224", 6: "sha512_256"}
 
+Edition = namedtuple("Edition", "width block digest start")
 Width = namedtuple("Width", "bits mask form constants large0 large1 small0 small1")
-
-
-class Edition(namedtuple("Edition", "width block digest start")):
-    __slots__ = ()
-
-    def limit(self):
-        """A message has fewer bits than this: 2^64 or 2^128, what the length field of its padding cannot hold."""
-        return 2 ** (2 * self.width.bits)
-
-    def longest(self):
-        """The most whole bytes that a message has."""
-        return self.limit() // 8 - 1
-
-    def too_long(self, taken, more):
-        """Number 7: so many bytes more make too many bits, after these."""
-        return 8 * taken + 8 * more >= self.limit()
 
 
 # ---- constants, by rule
@@ -131,5 +116,4 @@ def by_hashlib(number, message):
 
 
 def bay_words(number, count, chain, tail):
-    """Of a bay that has taken so many bytes: their length is counted in bits."""
-    return [number, *divmod(8 * count, WORD), *chain, *struct.unpack(">16Q", tail.ljust(128, b"\0"))]
+    return [number, count, *chain, *struct.unpack(">16Q", tail.ljust(128, b"\0"))]

@@ -16,9 +16,9 @@ from itertools import combinations
 from pathlib import Path
 
 import rules
-from driver import ALIGNED, FAR, GUARD_WORDS, ZEROS, Call, Memory, Word, changes, compare, short_bytes
+from driver import ALIGNED, FAR, GUARD_WORDS, Call, Memory, Word, changes, compare, short_bytes
 from rules import WORDS, Keyed, by_hmac
-from sha2 import BAY, EDITIONS
+from sha2 import BAY, EDITIONS, LONGEST
 
 VECTORS = Path(__file__).parent / "data/hmac.txt"
 VECTORS_SHA256 = "46db2220ab6574516c65d350a59e83064fc0c9aa101cd9ea98584c84e03478dd"
@@ -28,9 +28,6 @@ RIGHT = 833
 
 LAST = WORDS - 1
 TOP = 2**64
-# bytes that no memory has, and that cannot be read: from NARROW on they are too many in the editions of 32-bit words
-NARROW = 2**61
-UNREAD = (NARROW, NARROW + 1, NARROW + 64, 2**62, 2**63 - 1, 2**63, TOP - NARROW, TOP - 128, TOP - 64, TOP - 2, TOP - 1)
 LONGEST_TAG, LONGEST_ROOM = 64, 1024  # the driver has room for 1,024 bytes of an output
 LONGEST_RUN = 4096 - 2 * GUARD_WORDS  # and for 4,096 words
 UNKNOWN = (0, 7, 8, 9, 224, 256, 512, 1008, 1504, 2**16 + 2, 2**32 + 1, 2**32 + 2, 2**63, 2**63 + 4, TOP - 2, TOP - 1)
@@ -69,7 +66,7 @@ class OnKeyed(Call):
     """A call that also says, when it is shown, what it was made on."""
 
     def __str__(self):
-        return f"{super().__str__()} on words of edition {self.number:#x} with the length {self.bits:#x}"
+        return f"{super().__str__()} on words of edition {self.number:#x} with count {self.count:#x}"
 
 
 class Case(list):
@@ -98,8 +95,7 @@ class Case(list):
     def call(self, name, args, number, left=None, wrote=b""):
         """A call on the words, with the number that it must answer, and with the words that it leaves where it may write them."""
         call = OnKeyed(name, (self.lent, *args), where.randrange(ALIGNED**2))
-        call.number, high, low = (*self.words, 0, 0, 0)[:3]
-        call.bits = high * TOP + low
+        call.number, call.count = (*self.words, 0, 0)[:2]
         answers[name][number] += 1
         left = self.run() if left is None else left
         self.append((call, call.reply(number, wrote=wrote, changes=changes(self.run(), left))))
@@ -191,21 +187,11 @@ def made_up(number, first, data, outer=None):
     return Keyed(number, outer or [rng.getrandbits(w) for _ in range(8)], first, chain, data)
 
 
-def narrow(number):
-    """An edition that takes fewer than 2^64 bits."""
-    return EDITIONS[number].width.bits == 32
-
-
-def whole_blocks(number):
-    """As many as a keyed hash takes."""
-    return EDITIONS[number].longest() // EDITIONS[number].block
-
-
 def some_sound(number=None):
-    """The words of one, of any count, often near a limit."""
+    """The words of one, of any count, often near the limit."""
     number = number or some_edition()
-    block, most = EDITIONS[number].block, whole_blocks(number)
-    blocks = rng.choice((1, 2, rng.randrange(1, 2**20), 2**40 // block, most, most, most - rng.randrange(1, 2**20), rng.randrange(1, most)))
+    block = EDITIONS[number].block
+    blocks = rng.choice((1, 2, rng.randrange(1, 2**20), LONGEST // block - 1, LONGEST // block - rng.randrange(1, 2**20)))
     taken = rng.choice((0, 1, block - 1, rng.randrange(block)))
     return made_up(number, block * blocks, rng.randbytes(taken)).words(taken)
 
@@ -375,8 +361,7 @@ def stays():
                     case.call("keyed_tag", (case.output(rng.randrange(len(tag))),), 9)
                     case.hold(wrong(tag), 14)
                     case.hold(tag)
-                    if narrow(number):  # the others take all that a count can say
-                        case.call("keyed_add", (rng.choice(UNREAD),), 7)
+                    case.call("keyed_add", (LONGEST,), 7)
                     case.take(this, at, at)
             case.start(some_edition(), content(rng.randrange(200)))
             case.end(LONGEST_TAG)
@@ -389,37 +374,16 @@ def stays():
 # ---- lengths
 
 
-def edges():
-    """Lengths where bits or bytes grow out of 32 bits or of 64: pieces that end before each, at it, and past it, with every word after
-    them, and the tag."""
+def limit():
+    """The last bytes: pieces that end before the limit of 2^40, at it, and past it, among them ones of more bytes than there are at
+    hand."""
     for number, edition in EDITIONS.items():
         block = edition.block
-        for edge in (2**29, 2**32, 2**40, 2**60, NARROW, 2**62, 3 * NARROW, 2**64, 2**64 + NARROW, 2**93, 2**124):
-            if edge + 2 * block > edition.longest():
-                continue
-            for steps in ((block, block), (block - 1, 1, 1), (block - 1, 2, block - 1), (2 * block - 1,), (1, 2 * block - 1)):
-                this = made_up(number, edge - block, rng.randbytes(sum(steps)))
-                case, at = Case(this.words(0)), 0
-                for step in steps:
-                    case.take(this, at, at + step)
-                    at += step
-                    case.ask(this.tag(at), some_room(number))
-                    case.hold(this.tag(at))
-                yield case
-
-
-def limit():
-    """The last bytes: pieces that end before the limit of 2^64 or 2^128 bits, at it, and past it, among them ones of more bytes than there
-    are at hand, or in any memory."""
-    for number, edition in EDITIONS.items():
-        block, longest = edition.block, edition.longest()
-        for left in (0, 1, 2, 7, 8, block - 1, block, block + 1, 2 * block, 5000, FAR - 1, FAR, 2**32, 2**60, NARROW - 1 - block, TOP - 2):
-            if left > longest - block:
-                continue
-            taken = (longest - left) % block
-            this = made_up(number, longest - left - taken, rng.randbytes(taken))
-            for n in sorted({0, 1, left - 1, left, left + 1, left + 2, left + block, 2**40, 2**42, *UNREAD}):
-                if n < 0 or n >= TOP or 5000 < n <= left:  # nothing that takes long
+        for left in (0, 1, 2, 7, 8, block - 1, block, block + 1, 2 * block, 5000, FAR - 1, FAR, LONGEST // 2, LONGEST - block):
+            taken = (LONGEST - left) % block
+            this = made_up(number, LONGEST - left - taken, rng.randbytes(taken))
+            for n in sorted({0, 1, left - 1, left, left + 1, left + 2, left + block, LONGEST - 1, LONGEST, LONGEST + 1, 2**42}):
+                if n < 0 or 5000 < n <= left:  # nothing that takes long
                     continue
                 case = Case(this.words(taken))
                 done = case.add(n if n > FAR else rng.randbytes(n)) == 0
@@ -433,38 +397,33 @@ def limit():
                     case.add(rng.randbytes(room))
                     case.add(b"")
                     case.add(b"\x00")
-                    case.add(rng.choice(UNREAD))
+                    case.add(LONGEST)
                     case.end(some_room(number))
                     case.check(rules.end(case.run(), LONGEST_TAG)[1])
                 yield case
 
 
 def far():
-    """Keys and messages that no memory has, and that cannot be read: where they pass the limit they are refused before a byte of them is
-    looked at. So is a short output: that the longest key and the longest message are taken, and in the editions of 64-bit words every one,
-    is told by the 9 that follows."""
+    """Keys and messages that pass the limit, which no memory has: they are refused before a byte of them is read. So is a short output: the
+    longest key and the longest message that are taken are told by the 9 that follows, since to hash them takes hours."""
     for number, edition in EDITIONS.items():
         block = edition.block
-        keys = b"", content(block + 1), ZEROS + 1, NARROW - block, NARROW - 1
-        messages = b"", content(300), ZEROS + 1, NARROW - block - 2, NARROW - block - 1
-        if narrow(number):
-            for n in (*(NARROW - block + more for more in (0, 1, 2, block - 1)), *UNREAD):
-                case = Case(some_words(WORDS))
-                for key in (content(rng.choice((0, 5, block, block + 1, 300))), NARROW - 1, *UNREAD):
-                    case.tag(number, key, n, rng.choice((0, edition.digest, LONGEST_ROOM)))
-                    case.check_tag(number, key, n, rng.randbytes(rng.choice((0, edition.digest))))
-                yield case
-            for key in UNREAD:
-                case = Case(some_words(WORDS), rng.choice((WORDS, LAST, 0)))
-                for n in (0, 1, 300):
-                    case.tag(number, key, content(n), rng.choice((0, edition.digest, LONGEST_ROOM)))
-                    case.check_tag(number, key, content(n), rng.randbytes(rng.choice((0, edition.digest))))
-                case.start(number, key)
-                yield case
-        else:
-            keys, messages = (*keys, *UNREAD), (*messages, *UNREAD)
+        keys = LONGEST + 1, LONGEST + 2, LONGEST + block, 2 * LONGEST, 2**44
+        for n in (*(LONGEST - block + more for more in (1, 2, block - 1, block, block + 1, LONGEST)), 2**44):
+            case = Case(some_words(WORDS))
+            for key in (content(rng.choice((0, 5, block, block + 1, 300))), LONGEST, *keys):
+                case.tag(number, key, n, rng.choice((0, edition.digest, LONGEST_ROOM)))
+                case.check_tag(number, key, n, rng.randbytes(rng.choice((0, edition.digest))))
+            yield case
         for key in keys:
-            for message in messages:
+            case = Case(some_words(WORDS), rng.choice((WORDS, LAST, 0)))
+            for n in (0, 1, 300):
+                case.tag(number, key, content(n), rng.choice((0, edition.digest, LONGEST_ROOM)))
+                case.check_tag(number, key, content(n), rng.randbytes(rng.choice((0, edition.digest))))
+            case.start(number, key)
+            yield case
+        for key in (b"", content(block + 1), LONGEST - 1, LONGEST):
+            for message in (b"", content(300), LONGEST - block - 1, LONGEST - block):
                 case = Case()
                 case.at_once("tag", (number, key, message, case.output(rng.randrange(edition.digest))), 9)
                 yield case
@@ -482,7 +441,7 @@ def runs():
                 case = Case(words, lent)
                 case.end(rng.choice((0, edition.digest, LONGEST_TAG)))
                 case.check(rng.randbytes(edition.digest))
-                case.add(rng.choice((b"", rng.randbytes(rng.randrange(300)), rng.choice(UNREAD))))
+                case.add(rng.choice((b"", rng.randbytes(rng.randrange(300)), LONGEST)))
                 case.start(number, content(rng.randrange(200)))
                 yield case
     for lent in (*range(WORDS, WORDS + 20), 60, 64, 2 * WORDS, 2 * WORDS + 1, 512, LONGEST_RUN):
@@ -502,7 +461,7 @@ def runs():
 def refused(words):
     """Whatever is asked of words that are no keyed hash, it is refused and changes nothing."""
     case = Case(words)
-    told = {case.add(piece) for piece in (b"", rng.randbytes(rng.choice((1, 128, rng.randrange(1, 300)))), rng.choice(UNREAD))}
+    told = {case.add(piece) for piece in (b"", rng.randbytes(rng.choice((1, 128, rng.randrange(1, 300)))), LONGEST)}
     told |= {case.end(room) for room in (0, 28, LONGEST_TAG)}
     told |= {case.check(given) for given in (b"", rng.randbytes(rng.choice((28, 32, 48, 64))))}
     if told != {6}:
@@ -519,36 +478,33 @@ def damaged():
     for number, edition in EDITIONS.items():
         block, w = edition.block, edition.width.bits
         for taken in (0, 1, 7, 8, block - 8, block - 1, rng.randrange(block)):
-            words = made_up(number, block * rng.choice((1, 2, whole_blocks(number))), rng.randbytes(taken)).words(taken)
+            words = made_up(number, block * rng.choice((1, 2, LONGEST // block - 1)), rng.randbytes(taken)).words(taken)
             # each byte behind those that are taken, up to the end of the tail
             for at in range(taken, 128):
                 bits = rng.choice((1, 0x80, rng.randrange(1, 256))) << 56 - at % 8 * 8
-                yield refused(put(words, 11 + at // 8, words[11 + at // 8] | bits))
+                yield refused(put(words, 10 + at // 8, words[10 + at // 8] | bits))
             # a count that leaves one byte less in the tail, the last of which is there
             if taken:
-                last = words[11 + (taken - 1) // 8] | 1 << 56 - (taken - 1) % 8 * 8
-                yield refused(put(put(words, 11 + (taken - 1) // 8, last), 2, words[2] - 8))
-            # a length of fewer than eight bits more
-            for more in range(1, 8):
-                yield refused(put(words, 2, words[2] + more))
+                last = words[10 + (taken - 1) // 8] | 1 << 56 - (taken - 1) % 8 * 8
+                yield refused(put(put(words, 10 + (taken - 1) // 8, last), 1, words[1] - 1))
         words = some_sound(number)
         for unknown in UNKNOWN:
             yield refused(put(words, 0, unknown))
         # chaining words and outer words of more than w bits
         if w == 32:
-            for place in (*range(3, 11), *range(BAY, WORDS)):
+            for place in (*range(2, 10), *range(BAY, WORDS)):
                 for bit in (32, 33, 63, rng.randrange(32, 64)):
                     yield refused(put(words, place, words[place] | 1 << bit))
                 yield refused(put(words, place, 2**32))
         # fewer bytes than a block: sound for a bay where its words are the starting words, but nothing that a key leads to
         for count in (0, 1, 8, block // 2, block - 1):
-            for chain in (edition.start, words[3:11]):
-                yield refused((*rules.bay_words(number, count, chain, rng.randbytes(count)), *words[BAY:]))
-        # more bytes than the limit, which the others have not
-        for count in (2**61, 2**61 + 1, 2**61 + block, 2**62, 2**64 - 1, 2**64, 2**93, 2**124, 2**125 - 1) if w == 32 else ():
-            yield refused((*rules.bay_words(number, count, words[3:11], rng.randbytes(count % block)), *words[BAY:]))
-        # the 34 words that a keyed hash had before request 06: its length was one word, of bytes
-        yield refused((number, 2 * block, *words[3:11], *(0,) * 16, *words[BAY:]))
+            for chain in (edition.start, words[2:10]):
+                front = (number, count, *chain, *rules.bay_words(number, count, chain, rng.randbytes(count))[10:BAY])
+                yield refused((*front, *words[BAY:]))
+        # more bytes than the limit
+        for count in (LONGEST + 1, LONGEST + block, LONGEST + 2**32, 2 * LONGEST, 2**63, 2**63 + block, TOP - block, TOP - 1):
+            taken = count % block
+            yield refused((number, count, *rules.bay_words(number, count, words[2:10], rng.randbytes(taken))[2:BAY], *words[BAY:]))
     yield refused((0,) * WORDS)
     yield refused((TOP - 1,) * WORDS)
     for number in EDITIONS:
@@ -559,11 +515,11 @@ def damaged():
 
 
 def flips():
-    """One bit of a sound keyed hash changed, anywhere: the rules here say what comes of it, which may be a keyed hash again. Of the three
+    """One bit of a sound keyed hash changed, anywhere: the rules here say what comes of it, which may be a keyed hash again. Of the two
     numbers in front each bit is changed, and of each other word some, the lowest and the highest of either half among them."""
     for number in EDITIONS:
         for place in range(WORDS):
-            for bit in range(64) if place < 3 else {0, 31, 32, 63, rng.randrange(64)}:
+            for bit in range(64) if place < 2 else {0, 31, 32, 63, rng.randrange(64)}:
                 words = some_sound(number)
                 case = Case(words)
                 case.set(place, words[place] ^ 1 << bit)
@@ -647,36 +603,17 @@ def some_run(held):
     """Words for a case in which these refusals hold, and how many of them are lent. Of words that are too few, what is not sound and what
     is too long are meant as if all were lent."""
     words = some_sound()
-    if LONG in held:
-        # from where a count can say so many bytes that they are too long
-        number = some_edition()
-        taken = rng.randrange(EDITIONS[number].block)
-        blocks = whole_blocks(number) - rng.choice((0, 0, rng.randrange(2**32), rng.randrange(2**50)))
-        words = made_up(number, EDITIONS[number].block * blocks, rng.randbytes(taken)).words(taken)
     if UNSOUND in held:
-        others = [(0, rng.choice(UNKNOWN)), (2, words[2] | rng.randrange(1, 8)), (BAY - 1, words[BAY - 1] | 1)]
-        others += [(1, rng.choice((1, TOP - 1)))] * narrow(words[0])
-        words = put(words, *rng.choice(others))
+        place = rng.choice((0, 1, 25))
+        words = put(words, place, (rng.choice(UNKNOWN), rng.choice((0, LONGEST + 1, TOP - 1)))[place] if place < 2 else words[place] | 1)
     return words, rng.choice((LAST, rng.randrange(WORDS))) if FEW in held else None
 
 
-def some_unread():
-    """More bytes than the editions of 32-bit words take."""
-    return rng.choice((NARROW, rng.choice(UNREAD), rng.randrange(NARROW, TOP)))
-
-
-def edition_holding(held):
-    """One that is none, one in which bytes can be too many, or any."""
-    if EDITION in held:
-        return rng.choice(UNKNOWN)
-    return rng.choice((1, 2)) if held & {LONG_KEY, LONG} else some_edition()
-
-
 def at_once_holding(case, name, held):
-    number = edition_holding(held)
+    number = rng.choice(UNKNOWN) if EDITION in held else some_edition()
     edition = EDITIONS.get(number, EDITIONS[4])
-    key = some_unread() if LONG_KEY in held else content(some_length(2))
-    message = rng.choice((NARROW - edition.block, some_unread())) if LONG in held else content(some_length(2))
+    key = LONGEST + rng.choice((1, 1, rng.randrange(2, LONGEST))) if LONG_KEY in held else content(some_length(2))
+    message = LONGEST + rng.choice((1 - edition.block, 1, rng.randrange(2, LONGEST))) if LONG in held else content(some_length(2))
     if name == "tag":
         return case.tag(number, key, message, rng.randrange(28 if EDITION in held else edition.digest) if SHORT in held else LONGEST_TAG)
     tag = rng.randbytes(edition.digest) if held & {EDITION, LONG_KEY, LONG} else by_hmac(number, key, message)
@@ -685,12 +622,14 @@ def at_once_holding(case, name, held):
 
 def holding(case, name, held):
     if name == "keyed_start":
-        return case.start(edition_holding(held), some_unread() if LONG_KEY in held else content(some_length(2)))
+        key = LONGEST + rng.choice((1, 1, rng.randrange(2, LONGEST))) if LONG_KEY in held else content(some_length(2))
+        return case.start(rng.choice(UNKNOWN) if EDITION in held else some_edition(), key)
     # what the words would be if nothing were wrong with them
     hash_in = rules.read(case.words)
-    room, d = (hash_in.edition.longest() - hash_in.first - len(hash_in.data), hash_in.edition.digest) if hash_in else (0, 32)
+    count, d = (case.words[1], hash_in.edition.digest) if hash_in else (LONGEST, 32)
     if name == "keyed_add":
-        n = rng.choice((room + 1, room + 128, rng.randrange(room + 1, TOP), TOP - 1)) if LONG in held else min(room, rng.randrange(300))
+        room = LONGEST - count
+        n = room + rng.choice((1, 1, 128, rng.randrange(1, FAR))) if LONG in held else min(room, rng.randrange(300))
         return case.add(n if n > FAR else rng.randbytes(n))
     if name == "keyed_tag":
         return case.end(rng.randrange(min(28, d)) if SHORT in held else rng.choice((64, 65, 100)))
@@ -702,7 +641,7 @@ def editions():
     """Every number that names none, by itself and with all else that a call refuses."""
     for unknown in UNKNOWN:
         case = Case(some_words(WORDS))
-        for key, message in ((b"", b""), (content(99), content(200)), (NARROW, TOP - 1), (2**40 + 1, NARROW - 1)):
+        for key, message in ((b"", b""), (content(99), content(200)), (LONGEST + 1, LONGEST + 1)):
             for room in (0, LONGEST_TAG):
                 case.tag(unknown, key, message, room)
                 case.check_tag(unknown, key, message, rng.randbytes(room))
@@ -736,8 +675,8 @@ for message in MESSAGES[::7]:
         faults.append(f"the rules here make another tag than Digest::SHA: {message}")
 
 passed = failed = 0
-KINDS = (published, at_once, in_pieces, one_cut, long, carried, stays, edges, limit, far, runs, damaged, flips, outputs, wrong_tags)
-for kind in (*KINDS, refusals, editions):
+KINDS = (published, at_once, in_pieces, one_cut, long, carried, stays, limit, far, runs, damaged, flips, outputs, wrong_tags, refusals)
+for kind in (*KINDS, editions):
     right, unlike = compare(kind())
     print(f"{kind.__name__}: {right + unlike} cases" + (f", {unlike} failed, SEED={seed}" if unlike else ""), flush=True)
     passed, failed = passed + right, failed + unlike

@@ -6,7 +6,7 @@ FIPS 198-1's steps over the block rule of tests/driver/sha2.py.
 import hmac
 import struct
 
-from sha2 import BAY, EDITIONS, HASHLIB, WORD, bay_words, blocks, by_hashlib, leftmost, padding
+from sha2 import BAY, EDITIONS, HASHLIB, LONGEST, bay_words, blocks, by_hashlib, leftmost, padding
 
 OUTER = 8  # words
 WORDS = BAY + OUTER
@@ -64,19 +64,17 @@ def read(words):
     as."""
     if len(words) < WORDS or words[0] not in EDITIONS:
         return None
-    number, bits, chain, outer = words[0], words[1] * WORD + words[2], words[3:11], words[BAY:WORDS]
+    number, count, chain, outer = words[0], words[1], words[2:10], words[BAY:WORDS]
     edition = EDITIONS[number]
-    if bits >= edition.limit() or bits % 8 or any(word > edition.width.mask for word in (*chain, *outer)):
+    if not edition.block <= count <= LONGEST or any(word > edition.width.mask for word in (*chain, *outer)):
         return None
-    count, taken = bits // 8, bits // 8 % edition.block
-    if count < edition.block:
-        return None
-    held = Keyed(number, outer, count - taken, chain, struct.pack(">16Q", *words[11:BAY])[:taken])
+    taken = count % edition.block
+    held = Keyed(number, outer, count - taken, chain, struct.pack(">16Q", *words[10:BAY])[:taken])
     return held if held.words(taken) == tuple(words[:WORDS]) else None
 
 
 def size(lent):
-    """The count of bytes lent. A number stands for so many, more than can be sent."""
+    """The count of bytes lent. A number stands for so many zeros, more than can be sent."""
     return lent if isinstance(lent, int) else len(lent)
 
 
@@ -84,8 +82,7 @@ def refused(number, key, message):
     """What both calls at once ask first: 5, 7, or 0."""
     if number not in EDITIONS:
         return 5
-    edition = EDITIONS[number]
-    return 7 if edition.too_long(0, size(key)) or edition.too_long(edition.block, size(message)) else 0
+    return 7 if size(key) > LONGEST or EDITIONS[number].block + size(message) > LONGEST else 0
 
 
 def tag(number, key, message, room):
@@ -110,7 +107,7 @@ def add(words, piece):
     held = read(words)
     if held is None:
         return 6, words
-    if held.edition.too_long(held.first + len(held.data), size(piece)):
+    if held.first + len(held.data) + size(piece) > LONGEST:
         return 7, words
     held.data += piece
     return 0, held.words(len(held.data)) + words[WORDS:]

@@ -27,51 +27,23 @@ typedef char same_size[DW_TABLE_BYTES(2) == sizeof table ? 1 : -1];
 /* A record finds room in as many bytes as the macro says, in no fewer, and says itself that it has so many. */
 static void records(uint64_t edition)
 {
-    uint64_t told, high, low;
+    uint64_t told, count;
     size_t n;
     for (n = 0; n <= MOST; n++) {
-        size_t length = (size_t)DW_RECORD_BYTES(edition, 8 * n);
+        size_t length = (size_t)DW_RECORD_BYTES(edition, n);
         expect("lay out", dw_lay_out(table, WORDS, 2), DW_DONE);
         expect("open", dw_open(table, WORDS, 1, edition), DW_DONE);
         expect("add", dw_add(table, WORDS, 1, message, n), DW_DONE);
-        expect("ask", dw_ask(table, WORDS, 1, &told, &high, &low), DW_DONE);
-        if (told != edition || high != 0 || low != 8 * n || DW_RECORD_BYTES(told, low) != length)
+        expect("ask", dw_ask(table, WORDS, 1, &told, &count), DW_DONE);
+        if (told != edition || count != n || DW_RECORD_BYTES(told, count) != length)
             wrong = 1;
         expect("save in less room", dw_save(table, WORDS, 1, longest, length - 1), DW_SHORT_OUTPUT);
         expect("save", dw_save(table, WORDS, 1, longest, length), DW_DONE);
-        if (((size_t)longest[26] << 8 | longest[27]) != length)
+        if (((size_t)longest[18] << 8 | longest[19]) != length)
             wrong = 1;
         expect("load into a taken bay", dw_load(table, WORDS, 1, longest, length), DW_BAY_TAKEN);
         expect("load", dw_load(table, WORDS, 0, longest, length), DW_DONE);
     }
-}
-
-/* SPEC's sample of a record, of SHA-256 after abc, and the same as it was before 0.6: both load, and leave the same words. A table from
- * before 0.6 is none. */
-static void forms(void)
-{
-    static const uint8_t head[32] = {0, 2, 0, 8, 0, 32, 0, 64, 0, 0, 0, 0, 0, 0, 0, 0, 0, 0, 0, 0, 0, 0, 0, 24, 0, 3, 0, 67, 0, 0, 0, 0};
-    static const uint8_t old_head[24] = {0, 2, 0, 8, 0, 24, 0, 56, 0, 0, 0, 0, 0, 0, 0, 3, 0, 3, 0, 59, 0, 0, 0, 0};
-    uint8_t record[67], old[59];
-    uint64_t told, high, low;
-    expect("lay out", dw_lay_out(table, WORDS, 2), DW_DONE);
-    expect("open", dw_open(table, WORDS, 0, DW_SHA256), DW_DONE);
-    expect("add", dw_add(table, WORDS, 0, (const uint8_t *)"abc", 3), DW_DONE);
-    expect("save", dw_save(table, WORDS, 0, record, sizeof record), DW_DONE);
-    if (memcmp(record, head, sizeof head) != 0 || memcmp(record + 64, "abc", 3) != 0)
-        wrong = 1;
-    memcpy(old, old_head, sizeof old_head);
-    memcpy(old + sizeof old_head, record + sizeof head, 32 + 3);
-    expect("load of a record from before 0.6", dw_load(table, WORDS, 1, old, sizeof old), DW_DONE);
-    if (memcmp(table + 4, table + 4 + 27, 27 * sizeof *table) != 0)
-        wrong = 1;
-    expect("ask", dw_ask(table, WORDS, 1, &told, &high, &low), DW_DONE);
-    if (told != DW_SHA256 || high != 0 || low != 24)
-        wrong = 1;
-    table[2] = 26;
-    expect("ask of a table from before 0.6", dw_ask(table, WORDS, 1, &told, &high, &low), DW_BAD_TABLE);
-    if (told != 0 || high != 0 || low != 0)
-        wrong = 1;
 }
 
 /* The list of two names in SPEC's samples, in a buffer that it fills, the second name put in first or not; a byte less is too little. */
@@ -167,31 +139,27 @@ static void tags(uint64_t edition)
     expect("check tag of another key", dw_check_tag(edition, key, sizeof key - 1, text, TEXT, tag, n), DW_DIGEST_DIFFERS);
 
     memset(keyed, 0xee, sizeof keyed);
-    expect("keyed start in 34 words", dw_keyed_start(keyed, DW_KEYED_WORDS - 1, edition, key, sizeof key), DW_SHORT_OUTPUT);
+    expect("keyed start in 33 words", dw_keyed_start(keyed, DW_KEYED_WORDS - 1, edition, key, sizeof key), DW_SHORT_OUTPUT);
     expect("keyed start in edition 7", dw_keyed_start(keyed, DW_KEYED_WORDS - 1, 7, key, sizeof key), DW_NO_SUCH_EDITION);
     expect("keyed add where no keyed hash is", dw_keyed_add(keyed, DW_KEYED_WORDS, text, 1), DW_NOT_SOUND);
     expect("keyed start in more words", dw_keyed_start(keyed, DW_KEYED_WORDS + 1, edition, text, TEXT), DW_DONE);
     expect("keyed start", dw_keyed_start(keyed, DW_KEYED_WORDS, edition, key, sizeof key), DW_DONE);
-    if (keyed[1] != 0 || keyed[2] != 8 * block)
+    if (keyed[1] != block)
         wrong = 1;
     expect("keyed add", dw_keyed_add(keyed, DW_KEYED_WORDS, text, FIRST), DW_DONE);
     expect("keyed tag halfway", dw_keyed_tag(keyed, DW_KEYED_WORDS, more, n), DW_DONE);
     expect("keyed check halfway", dw_keyed_check(keyed, DW_KEYED_WORDS, tag, n), DW_DIGEST_DIFFERS);
-    expect("keyed add to 34 words", dw_keyed_add(keyed, DW_KEYED_WORDS - 1, text + FIRST, TEXT - FIRST), DW_NOT_SOUND);
+    expect("keyed add to 33 words", dw_keyed_add(keyed, DW_KEYED_WORDS - 1, text + FIRST, TEXT - FIRST), DW_NOT_SOUND);
     expect("keyed add of the rest", dw_keyed_add(keyed, DW_KEYED_WORDS, text + FIRST, TEXT - FIRST), DW_DONE);
     expect("keyed tag", dw_keyed_tag(keyed, DW_KEYED_WORDS, more, n), DW_DONE);
-    if (keyed[2] != 8 * (block + TEXT) || keyed[DW_KEYED_WORDS] != UINT64_C(0xeeeeeeeeeeeeeeee) || memcmp(tag, more, sizeof tag) != 0)
+    if (keyed[1] != block + TEXT || keyed[DW_KEYED_WORDS] != UINT64_C(0xeeeeeeeeeeeeeeee) || memcmp(tag, more, sizeof tag) != 0)
         wrong = 1;
     expect("keyed tag in a byte less", dw_keyed_tag(keyed, DW_KEYED_WORDS, more, n - 1), DW_SHORT_OUTPUT);
-    expect("keyed tag of 34 words", dw_keyed_tag(keyed, DW_KEYED_WORDS - 1, more, n), DW_NOT_SOUND);
+    expect("keyed tag of 33 words", dw_keyed_tag(keyed, DW_KEYED_WORDS - 1, more, n), DW_NOT_SOUND);
     expect("keyed check", dw_keyed_check(keyed, DW_KEYED_WORDS, tag, n), DW_DONE);
     expect("keyed check of a tag that is cut", dw_keyed_check(keyed, DW_KEYED_WORDS, tag, n - 1), DW_DIGEST_DIFFERS);
     expect("keyed start anew", dw_keyed_start(keyed, DW_KEYED_WORDS, edition, key, sizeof key), DW_DONE);
-    /* the last whole block before the limit, and the bytes of one more but the last */
-    keyed[1] = block == 64 ? 0 : UINT64_MAX;
-    keyed[2] = UINT64_MAX - 8 * block + 1;
-    expect("keyed add up to the limit", dw_keyed_add(keyed, DW_KEYED_WORDS, message, block - 1), DW_DONE);
-    expect("keyed add of nothing at the limit", dw_keyed_add(keyed, DW_KEYED_WORDS, message, 0), DW_DONE);
+    keyed[1] = UINT64_C(1) << 40;
     expect("keyed add at the limit", dw_keyed_add(keyed, DW_KEYED_WORDS, text, 1), DW_TOO_LONG);
     printf("tag %" PRIu64 " ", edition);
     for (k = 0; k < n; k++)
@@ -202,7 +170,7 @@ static void tags(uint64_t edition)
 int main(void)
 {
     const uint8_t *nothing = (const uint8_t *)"";
-    uint64_t i, told, high, low;
+    uint64_t i, told, count;
     size_t k, at, len;
 
     printf("version %s\n", DW_VERSION);
@@ -244,10 +212,9 @@ int main(void)
     memset(message, 'm', sizeof message);
     for (i = 1; i <= 6; i++)
         records(i);
-    forms();
     expect("lay out", dw_lay_out(table, WORDS, 2), DW_DONE);
-    expect("ask of an empty bay", dw_ask(table, WORDS, 0, &told, &high, &low), DW_DONE);
-    if (told != 0 || high != 0 || low != 0 || DW_RECORD_BYTES(told, low) != 0 || DW_RECORD_BYTES(7, 5) != 0)
+    expect("ask of an empty bay", dw_ask(table, WORDS, 0, &told, &count), DW_DONE);
+    if (DW_RECORD_BYTES(told, count) != 0 || DW_RECORD_BYTES(7, 5) != 0)
         wrong = 1;
 
     /* each call that was not made above, and an empty buffer with a pointer that is not null */

@@ -34,15 +34,12 @@ class Script:
     def call(self, name, *args, shifts=None):
         if SIGNATURES[name][1][0] == "words" and args[0] > self.words:
             raise Untold("more words than there are")
-        held = self.model.look(args[1]) if self.coverage and name == "close" and args[1] < self.model.bays_in(args[0]) else None
         answer = getattr(self.model, name)(*args)
         call = Call(name, args, self.rng.randrange(ALIGNED**3) if shifts is None else shifts)
         self.steps.append(call)
         self.replies.append(call.reply(answer.number, answer.values, answer.wrote, self.changes(answer.sets)))
         if self.coverage:
             self.coverage.call(name, args, answer, self.model)
-            if held and name == "close" and answer.number == 0:
-                self.coverage.closed(held.number, 8 * held.count())
             self.coverage.places(call.alignments())
         return answer
 

@@ -5,16 +5,13 @@ import random
 import sys
 import time
 import traceback
-from itertools import chain
 
-import damage
 from calls import difference, replay
 from coverage import Coverage
 from driver import GUARD_WORDS, SHORT_PATIENCE, SIGNATURES, Call, Driver
 from ledger import Entry
-from lengths import Lengths
 from rules import BAY, HEADER, Wrong
-from sequences import ledger_sequence, samples, some_memory, words_sequence
+from sequences import ledger_sequence, samples, words_sequence
 
 DEFAULT_CALLS = 300_000
 MOST_FAILURES = 3  # sequences that are shrunk and shown before the run ends
@@ -126,9 +123,8 @@ def shown(shrinker):
 
 
 def sequences(seed, wanted, coverage):
-    """Scripts, each from random numbers of its own: the samples, damaged records, and then any, until there are so many calls."""
+    """Scripts, each from random numbers of its own, until there are so many calls."""
     yield "samples", samples(random.Random(f"{seed} samples"), coverage)
-    yield from (("damaged record, " + name, script) for name, script in damage.scripts(random.Random(f"{seed} damage"), some_memory))
     i = 0
     while coverage.calls() < wanted:
         rng = random.Random(f"{seed} {i}")
@@ -147,7 +143,7 @@ class Run:
     def __init__(self, seed, wanted):
         self.seed, self.wanted = seed, wanted
         self.coverage, self.driver = Coverage(), Driver()
-        self.passed = self.failed = self.scripts = self.far = 0
+        self.passed = self.failed = self.scripts = 0
 
     def fail(self, text):
         self.failed += 1
@@ -167,13 +163,11 @@ class Run:
         self.fail(f"seed {self.seed}, {name}, of {len(script.steps)} steps. {shown(shrinker)}")
 
     def compare_all(self):
-        lengths = Lengths(random.Random(f"{self.seed} lengths"), some_memory)
-        for name, script in chain(lengths.all(), sequences(self.seed, self.wanted, self.coverage)):
+        for name, script in sequences(self.seed, self.wanted, self.coverage):
             self.compare(name, script)
             if self.failed == MOST_FAILURES or self.driver.patience == SHORT_PATIENCE:
                 print("the run ends here")
                 return
-        self.far = lengths.second()
 
     def look_for_missing(self):
         missing = self.coverage.missing() + ["digest of a message that was saved and loaded"] * (Entry.carried == 0)
@@ -192,7 +186,6 @@ class Run:
         print("\n".join(self.coverage.table()))
         print(self.coverage.summary())
         print(f"{self.scripts} sequences; hashlib agreed on {Entry.second} digests, {Entry.carried} of messages once saved and loaded")
-        print(f"Digest::SHA agreed on {self.far} digests of lengths about each edge")
         print(f"{self.passed} passed, {self.failed} failed")
         return 0 if self.failed == 0 else 1
 

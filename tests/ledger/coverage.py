@@ -22,32 +22,18 @@ NUMBERS = {
 BYTES = ("piece", "record", "message", "map", "list", "name", "digest", "out")
 # pairs that never hold together, or of which the second speaks of what the first says is not there
 APART = {(1, 6), (1, 4), (1, 3), (2, 6), (2, 4), (2, 3), (6, 4), (12, 13), (12, 14), (13, 14)}
-BAY_RULES = (
-    "all zeros when empty",
-    "edition",
-    "limit",
-    "whole bytes",
-    "chaining words below 2^w",
-    "zeros after the tail",
-    "starting words",
-)
-# of either form of a record; the old one is known by its offset of words, and counts whole bytes
-FORMS_RULES = ("length", "edition", "word count", "offset of tail", "limit", "tail length", "record length", "zero", "starting words")
+BAY_RULES = ("all zeros when empty", "edition", "count", "chaining words below 2^w", "zeros after the tail", "starting words")
 RECORD_RULES = (
-    *(f"{form}: {rule}" for form in ("old", "new") for rule in FORMS_RULES),
-    "new: offset of words",
-    "new: whole bytes",
-)
-
-
-# where the lengths of messages that were closed lie, in bits: each up to the next
-LENGTHS = (
-    ("below 2^32 bits", 2**32),
-    ("below 2^32 bytes", 2**35),
-    ("up to 2^40 bytes", 2**43 + 1),
-    ("below 2^64 bits", 2**64),
-    ("below 2^64 bytes", 2**67),
-    ("below 2^128 bits", 2**128),
+    "length",
+    "edition",
+    "word count",
+    "offset of words",
+    "offset of tail",
+    "bytes taken",
+    "tail length",
+    "record length",
+    "zero",
+    "starting words",
 )
 
 
@@ -83,8 +69,6 @@ class Coverage:
             "outputs about their limit": list(rooms()),
             "rules of a bay broken alone": BAY_RULES,
             "rules of a record broken alone": RECORD_RULES,
-            "records loaded": [(form, edition) for form in ("old", "new") for edition in EDITIONS],
-            "digests of lengths": [(edition, name) for edition in EDITIONS for name, end in LENGTHS if end <= EDITIONS[edition].limit()],
             "alignments": [(field, at) for field in BYTES for at in range(16)],
             "words damaged": [("header", i) for i in range(HEADER)] + [("bay", i) for i in range(BAY)],
         }
@@ -102,12 +86,6 @@ class Coverage:
             self.broken("rules of a record broken alone", rules.record_faults(args[2]))
         elif number == 9 or number == 0 and answer.wrote:
             self.room(name, args, answer, model)
-        elif number == 0 and name == "load":
-            self.seen["records loaded"]["old" if rules.is_old(args[2]) else "new", int.from_bytes(args[2][:2], "big")] += 1
-
-    def closed(self, number, bits):
-        """Counts a digest of a message of that edition and of so many bits before any closing ones."""
-        self.seen["digests of lengths"][number, next(name for name, end in LENGTHS if bits < end)] += 1
 
     def broken(self, kind, faults):
         if len(faults) == 1:

@@ -1,20 +1,16 @@
 """Random arguments of calls: pieces, closing bits, outputs, records and lists, whole and damaged, most of them about some limit."""
 import rules
-from driver import FAR, ZEROS
+from driver import FAR
 from ledger import Entry
-from rules import BAY, CHUNK, EDITIONS, OLD_LONGEST
+from rules import BAY, CHUNK, EDITIONS, LONGEST
 
 TOP = 2**64
 OTHER_EDITIONS = (0, 7, 8, 224, 256, 1008, 1504, 2**16 + 2, 2**32 + 2, 2**63, 2**63 + 4, TOP - 1)
 OTHER_BITS = (8, 9, 15, 16, 255, 256, 2**32, 2**32 + 1, 2**63, TOP - 8, TOP - 1)
-# bay numbers for which 4 + 27 bay, modulo 2^64, is a place in a table
-WRAPPING = tuple((TOP * k + BAY - 1) // BAY for k in range(1, 27, 4))
+# bay numbers for which 4 + 26 bay, modulo 2^64, is a place in a table
+WRAPPING = tuple((TOP * k + BAY - 1) // BAY for k in range(1, 26, 4))
 OTHER_BAYS = (64, 65, 100, 2**16, 2**32, 2**32 + 1, 2**63, TOP - 2, TOP - 1, *WRAPPING)
 OTHER_COUNTS_OF_BAYS = (0, 65, 66, 2**32 + 1, 2**63, TOP - 1, WRAPPING[0])
-# bytes at which a length in bits or in bytes grows out of 32 bits, of 64 or of 128, and the old form's most
-EDGES = (2**29, 2**32, OLD_LONGEST, 2**61, 2**64, 2**125)
-# bytes that no memory has, of which the bits, modulo 2^64 or 2^128, are few or many
-UNREAD = (ZEROS + 1, 2**60, 2**61 - 1, 2**61, 2**61 + 1, 2**61 + 64, 2**62, 2**63 - 1, 2**63, TOP - 2**61, TOP - 64, TOP - 2, TOP - 1)
 
 
 def content(rng, n):
@@ -39,37 +35,24 @@ def some_length(rng, block, count):
     return rng.randint(1, 5000 if kind >= 96 else 1500)
 
 
-def unread(rng, least):
-    """A count of bytes that no memory has, at least so many; None where no count is so large. Only a call that reads none is lent them."""
-    least = max(least, ZEROS + 1)
-    if least >= TOP:
-        return None
-    return rng.choice((least, least, *(n for n in UNREAD if n >= least), rng.randrange(least, TOP)))
-
-
 def some_piece(rng, held):
-    """A piece that a bay takes, or that passes its limit, often by one byte. What it holds is not asked where it holds none."""
-    if not isinstance(held, Entry):
-        return unread(rng, 0) if rng.randrange(10) == 0 else content(rng, some_length(rng, 64, 0))
-    block, count = held.edition.block, held.count()
-    left = held.edition.longest() - count
-    if rng.randrange(100 if left >= ZEROS else 10) == 0:
-        n = unread(rng, left + 1)
-        if n is not None:
-            return n
+    block, count = (held.edition.block, held.count()) if isinstance(held, Entry) else (64, 0)
+    if rng.randrange(100 if isinstance(held, Entry) else 10) == 0:
+        return LONGEST + rng.choice((1, 2, rng.randrange(1, LONGEST)))
+    left = LONGEST - count
     if left < 1000 and rng.randrange(2):
         return content(rng, max(0, left + rng.randint(-1, 2)))
     return content(rng, some_length(rng, block, count))
 
 
 def some_message(rng, block):
-    return content(rng, some_length(rng, block, 0))
+    return LONGEST + rng.randrange(1, LONGEST) if rng.randrange(12) == 0 else content(rng, some_length(rng, block, 0))
 
 
 def some_map(rng):
     kind = rng.randrange(100)
     if kind < 8:
-        return rng.choice((FAR + 1, 2**40, rng.randrange(FAR + 1, 2**41), unread(rng, 0)))
+        return FAR + rng.choice((1, LONGEST, rng.randrange(1, LONGEST)))
     if kind < 50:
         return content(rng, rng.randrange(6) * CHUNK + rng.choice((0, 1, 2, CHUNK - 1)))
     return content(rng, rng.randrange(rng.choice((100, 2000, 5000))))
@@ -113,31 +96,19 @@ def some_edition(rng):
 def some_state(rng):
     """Edition, bytes taken, chaining words and tail of a sound bay, one that calls may never have led to."""
     number = rng.randint(1, 6)
-    edition = EDITIONS[number]
-    width, block, _, start = edition
+    width, block, _, start = EDITIONS[number]
     kind = rng.randrange(100)
     if kind < 25:
         count = rng.randrange(block)
     elif kind < 55:
         count = rng.randrange(block, 10 * block)
-    elif kind < 65:
-        count = edition.longest() - rng.randrange(3 * block)
     elif kind < 72:
-        count = edition.longest()
-    elif kind < 90:
-        count = max(0, min(edition.longest(), rng.choice(EDGES) + rng.randrange(-2 * block, 2 * block)))
+        count = LONGEST - rng.randrange(3 * block)
+    elif kind < 85:
+        count = LONGEST
     else:
-        count = rng.randrange(2 ** rng.randrange(1, 2 * edition.width.bits - 2))
+        count = rng.randrange(LONGEST)
     chain = start if count < block else tuple(rng.getrandbits(width.bits) for _ in range(8))
-    return number, count, chain, content(rng, count % block)
-
-
-def some_old_state(rng):
-    """The same, of a bay that the old form has a record for, often near the most bytes of that."""
-    number, count, chain, _ = some_state(rng)
-    block = EDITIONS[number].block
-    if count > OLD_LONGEST:
-        count = OLD_LONGEST - rng.choice((0, 0, 1, rng.randrange(3 * block), rng.randrange(OLD_LONGEST - block)))
     return number, count, chain, content(rng, count % block)
 
 
@@ -166,28 +137,15 @@ def damaged(rng, data):
     return rng.randbytes(len(data)) if kind == 6 else bytes(len(data))
 
 
-# of a record's header: where they lie and how long they are; the length is changed more often
-FIELDS = ((0, 2), (2, 2), (4, 2), (6, 2), (8, 16), (8, 16), (8, 16), (24, 2), (26, 2), (28, 4))
-OLD_FIELDS = ((0, 2), (2, 2), (4, 2), (6, 2), (8, 8), (8, 8), (16, 2), (18, 2), (20, 4))
-
-
 def other_field(rng, data):
     """A record with one field of its header changed, often so that no second rule is broken by it."""
-    old = rules.is_old(data)
-    at, length = rng.choice(OLD_FIELDS if old else FIELDS)
+    at, length = rng.choice(((0, 2), (2, 2), (4, 2), (6, 2), (8, 8), (8, 8), (16, 2), (18, 2), (20, 4)))
     was = field(data, at, length)
     if at == 0:
         return with_field(data, at, length, rng.choice((0, 7, 8, 1008, rng.randint(1, 6), was + 256)))
-    if at == 4:
-        return with_field(data, at, length, rng.choice((was + 1, was + 256, rules.AT_WORDS, rules.OLD_AT_WORDS, rng.randrange(65536))))
-    if at == 8 and old:
-        blocks = 128 * rng.randrange(1, 2**20)
-        return with_field(data, at, length, was + rng.choice((OLD_LONGEST + 128, blocks, 1, -1, TOP // 2, OLD_LONGEST - was + 1)))
     if at == 8:
-        # a block's bits and more of them, a byte's, fewer than a byte's, and bits of the higher word
-        blocks = 1024 * rng.randrange(1, 2**20)
-        more = blocks, 8, -8, rng.randrange(1, 8), rng.randrange(1, 8), TOP, TOP * rng.randrange(1, TOP), TOP << rng.randrange(64)
-        return with_field(data, at, length, was + rng.choice(more))
+        blocks = 128 * rng.randrange(1, 2**20)
+        return with_field(data, at, length, was + rng.choice((LONGEST + 128, blocks, 1, -1, TOP // 2, LONGEST - was + 1)))
     others = (was + 1, was - 1, was + 256, was ^ 1 << rng.randrange(8 * length), rng.randrange(65536))
     return with_field(data, at, length, rng.choice(others))
 
@@ -195,12 +153,11 @@ def other_field(rng, data):
 def damaged_record(rng, data):
     kind = rng.randrange(60)
     if kind == 0:
-        return FAR + rng.choice((1, 2**40, rng.randrange(1, 2**40)))
+        return FAR + rng.choice((1, LONGEST, rng.randrange(1, LONGEST)))
     if kind < 30:
         return other_field(rng, data)
     if kind < 36:  # a byte of the chaining words, which must be the starting words in a record of less than a block
-        at = rules.OLD_AT_WORDS if rules.is_old(data) else rules.AT_WORDS
-        return with_field(data, at + rng.randrange(32), 1, rng.randrange(256))
+        return with_field(data, rng.randrange(24, 56), 1, rng.randrange(256))
     return damaged(rng, data)
 
 
@@ -251,7 +208,7 @@ def wrong_list(rng, number, entries):
         at, length = rng.choice(((0, 2), (2, 2), (4, 4), (8, 4), (12, 4)))
         was = field(data, at, length)
         return with_field(data, at, length, rng.choice((0, was + 1, was - 1, was + 256, 7, 257)))
-    return FAR + rng.randrange(1, 2**40) if rng.randrange(60) == 0 else damaged(rng, data)
+    return FAR + rng.randrange(1, LONGEST) if rng.randrange(60) == 0 else damaged(rng, data)
 
 
 def some_question(rng, number, entries):

@@ -1,13 +1,13 @@
 """SPEC, "The plain ledger": what a bay holds is kept as the bytes it was given, and every answer is worked out from them.
 
 A call takes the arguments of its C function, a lent run as its count of words and an output as a pair that has its count of bytes first,
-and hands back an Answer: the number; the numbers after it in SPEC's order whose conditions hold too; the values of ask and lookup; the
+and hands back an Answer: the number; the numbers after it in SPEC's order whose conditions hold too; the two values of ask and lookup; the
 bytes at the front of the output; and the words of the lent run that are set, as the place of the first and a list.
 """
 from collections import namedtuple
 
 import rules
-from rules import BAY, EDITIONS, HEADER, WORD, Wrong
+from rules import BAY, EDITIONS, HEADER, LONGEST, Wrong
 
 Answer = namedtuple("Answer", "number later values wrote sets")
 UNSOUND = "unsound"
@@ -24,7 +24,7 @@ def first(*conditions):
 
 
 def size(lent):
-    """The count of bytes lent. A number stands for so many, more than can be sent."""
+    """The count of bytes lent. A number stands for so many zeros, more than can be sent."""
     return lent if isinstance(lent, int) else len(lent)
 
 
@@ -100,7 +100,7 @@ class Entry:
         return rules.record(self.number, self.count(), self.words(), self.tail())
 
     def record_length(self):
-        return rules.AT_WORDS + self.edition.width.bits + len(self.tail())
+        return 24 + self.edition.width.bits + len(self.tail())
 
     def bay(self):
         return rules.bay_words(self.number, self.count(), self.words(), self.tail())
@@ -111,7 +111,7 @@ class Calls:
 
     `find(words, bay)` tells whether there is such a bay, what it holds (None, UNSOUND or an entry) and the conditions of 1 and 2. `put`
     hands back the words that are set. A condition that speaks of what is not there (the edition of an empty bay) does not hold, except that
-    an output too short for every edition is too short, and that bytes are too many which edition 1 would not take.
+    an output too short for every edition is too short.
     """
 
     def lay_out(self, words, bays):
@@ -125,8 +125,8 @@ class Calls:
 
     def add(self, words, bay, piece):
         there, held, table = self.find(words, bay)
-        edition, count = (held.edition, held.count()) if isinstance(held, Entry) else (EDITIONS[1], 0)
-        answer, later = first(*table, (6, held is UNSOUND), (4, there and not held), (7, edition.too_long(count, size(piece))))
+        count = held.count() if isinstance(held, Entry) else 0
+        answer, later = first(*table, (6, held is UNSOUND), (4, there and not held), (7, count + size(piece) > LONGEST))
         return Answer(answer, later, None, b"", None if answer else self.put(bay, held.add(piece)))
 
     def close(self, words, bay, closing, bits, out):
@@ -154,8 +154,7 @@ class Calls:
     def ask(self, words, bay):
         _, held, table = self.find(words, bay)
         answer, later = first(*table, (6, held is UNSOUND))
-        told = (held.number, *divmod(8 * held.count(), WORD)) if held and not answer else (0, 0, 0)
-        return Answer(answer, later, told, b"", None)
+        return Answer(answer, later, (held.number, held.count()) if held and not answer else (0, 0), b"", None)
 
     def drop(self, words, bay):
         there, held, table = self.find(words, bay)
@@ -163,12 +162,9 @@ class Calls:
         return Answer(answer, later, None, b"", None if answer else self.put(bay, None))
 
     def hash(self, number, message, closing, bits, out):
-        edition = EDITIONS.get(number, EDITIONS[1])
+        need = EDITIONS[number].digest if number in EDITIONS else rules.LEAST_DIGEST
         answer, later = first(
-            (5, number not in EDITIONS),
-            (7, edition.too_long(0, size(message))),
-            (8, rules.bad_closing(closing, bits)),
-            (9, out[0] < edition.digest),
+            (5, number not in EDITIONS), (7, size(message) > LONGEST), (8, rules.bad_closing(closing, bits)), (9, out[0] < need)
         )
         return Answer(answer, later, None, b"" if answer else rules.digest_at_once(number, message, closing, bits), None)
 
@@ -211,7 +207,7 @@ class Ledger(Calls):
     def __init__(self, memory):
         self.length = len(memory)
         self.bays = []
-        self.messages = {}  # what a record of either form tells -> the message it is the record of, for hashlib
+        self.messages = {}  # record -> the message it is the record of, for hashlib
 
     def bays_in(self, _words):
         return len(self.bays)
@@ -235,15 +231,14 @@ class Ledger(Calls):
     def saved(self, entry):
         data = entry.record()
         if entry.head is not None:
-            self.messages[rules.read_record(data)] = bytes(entry.head + entry.since)
+            self.messages[data] = bytes(entry.head + entry.since)
         return data
 
     def loaded(self, data):
         """SPEC, "The plain ledger": entries with one record are alike, so what was loaded from the record of a message holds it."""
         entry = Entry.loaded(data)
-        message = self.messages.get(rules.read_record(data))
-        if message is not None:
-            entry.head, entry.was_saved = message[: entry.before], True
+        if data in self.messages:
+            entry.head, entry.was_saved = self.messages[data][: entry.before], True
         return entry
 
     def overwrite(self, place, values):

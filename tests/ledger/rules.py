@@ -2,7 +2,7 @@
 tests/driver/sha2.py, which they find here too."""
 import struct
 
-from sha2 import BAY, EDITIONS, WORD, as_bytes, bay_words, blocks, by_hashlib, leftmost, padding  # noqa: F401
+from sha2 import BAY, EDITIONS, LONGEST, as_bytes, bay_words, blocks, by_hashlib, leftmost, padding  # noqa: F401
 
 MAP_LIMIT, CHUNK = 1_048_576, 1024  # "Chunk tree"
 HEADER = 4  # "The table of bays": words
@@ -31,20 +31,18 @@ def bad_closing(closing, bits):
 
 
 def bay_faults(words):
-    """The rules of a sound bay that these 27 words break."""
+    """The rules of a sound bay that these 26 words break."""
     if not any(words):
         return ()
-    number, high, low, chain, tail = words[0], words[1], words[2], words[3:11], words[11:]
+    number, count, chain, tail = words[0], words[1], words[2:10], words[10:]
     if number == 0:
         return ("all zeros when empty",)
     if number not in EDITIONS:
         return ("edition",)
-    edition, bits = EDITIONS[number], high * WORD + low
-    count, faults = bits // 8, []
-    if bits >= edition.limit():
-        faults.append("limit")
-    if bits % 8:
-        faults.append("whole bytes")
+    edition = EDITIONS[number]
+    faults = []
+    if count > LONGEST:
+        faults.append("count")
     if any(word > edition.width.mask for word in chain):
         faults.append("chaining words below 2^w")
     if any(struct.pack(">16Q", *tail)[count % edition.block :]):
@@ -54,99 +52,45 @@ def bay_faults(words):
     return tuple(faults)
 
 
-# Both forms of a record, each by rules of its own. The one that is saved:
-#    0 edition, 2 count of words, 4 words at, 6 tail at, 8 length in bits, of 16 bytes, 24 tail length, 26 whole length, 28 zero, 32 words
-HEAD, AT_WORDS = ">HHHHQQHHI", 32
-LEAST_RECORD = 64
+RECORD_HEAD = ">HHHHQHHI"
+LEAST_RECORD = 56
 
 
 def record(number, count, chain, tail):
     width = EDITIONS[number].width
-    at_tail = AT_WORDS + width.bits
-    head = struct.pack(HEAD, number, 8, AT_WORDS, at_tail, *divmod(8 * count, WORD), len(tail), at_tail + len(tail), 0)
-    return head + as_bytes(width, chain) + tail
-
-
-def new_faults(data):
-    """The rules of today's form that these bytes break. Chaining words cannot be too large: they have w bits each."""
-    if len(data) < AT_WORDS:
-        return ("length",)
-    number, words, at_words, at_tail, high, low, tail, whole, zero = struct.unpack(HEAD, data[:AT_WORDS])
-    if number not in EDITIONS:
-        return ("edition",)
-    edition, bits = EDITIONS[number], high * WORD + low
-    true_tail, true_at_tail = bits // 8 % edition.block, AT_WORDS + edition.width.bits
-    rules = {
-        "word count": words == 8,
-        "offset of words": at_words == AT_WORDS,
-        "offset of tail": at_tail == true_at_tail,
-        "limit": bits < edition.limit(),
-        "whole bytes": bits % 8 == 0,
-        "tail length": tail == true_tail,
-        "record length": whole == true_at_tail + true_tail,
-        "zero": zero == 0,
-        "length": len(data) == true_at_tail + true_tail,
-        "starting words": bits // 8 >= edition.block or data[AT_WORDS:true_at_tail] == as_bytes(edition.width, edition.start),
-    }
-    return tuple(name for name, kept in rules.items() if not kept)
-
-
-# The old form, which loads and is never saved:
-#    0 edition, 2 count of words, 4 words at, 6 tail at, 8 length in bytes, of 8 bytes, 16 tail length, 18 whole length, 20 zero, 24 words
-OLD_HEAD, OLD_AT_WORDS = ">HHHHQHHI", 24
-OLD_LONGEST = 2**40  # bytes of its message
-
-
-def old_record(number, count, chain, tail):
-    width = EDITIONS[number].width
-    at_tail = OLD_AT_WORDS + width.bits
-    head = struct.pack(OLD_HEAD, number, 8, OLD_AT_WORDS, at_tail, count, len(tail), at_tail + len(tail), 0)
-    return head + as_bytes(width, chain) + tail
-
-
-def old_faults(data):
-    """The rules of the old form that these bytes break; its offset of words is what it is known by."""
-    if len(data) < OLD_AT_WORDS:
-        return ("length",)
-    number, words, _, at_tail, count, tail, whole, zero = struct.unpack(OLD_HEAD, data[:OLD_AT_WORDS])
-    if number not in EDITIONS:
-        return ("edition",)
-    edition = EDITIONS[number]
-    true_tail, true_at_tail = count % edition.block, OLD_AT_WORDS + edition.width.bits
-    rules = {
-        "word count": words == 8,
-        "offset of tail": at_tail == true_at_tail,
-        "limit": count <= OLD_LONGEST,
-        "tail length": tail == true_tail,
-        "record length": whole == true_at_tail + true_tail,
-        "zero": zero == 0,
-        "length": len(data) == true_at_tail + true_tail,
-        "starting words": count >= edition.block or data[OLD_AT_WORDS:true_at_tail] == as_bytes(edition.width, edition.start),
-    }
-    return tuple(name for name, kept in rules.items() if not kept)
-
-
-def is_old(data):
-    """Which form bytes are judged by: the old one where the field at 4 is 24, today's where it is anything else or is not there."""
-    return data[4:6] == OLD_AT_WORDS.to_bytes(2, "big")
+    at_tail = 24 + width.bits
+    return struct.pack(RECORD_HEAD, number, 8, 24, at_tail, count, len(tail), at_tail + len(tail), 0) + as_bytes(width, chain) + tail
 
 
 def record_faults(data):
-    """The rules of its form that these bytes break, each with the form."""
-    form, faults = ("old", old_faults) if is_old(data) else ("new", new_faults)
-    return tuple(f"{form}: {fault}" for fault in faults(data))
+    """The rules of a record that these bytes break. Chaining words cannot be too large: they have w bits each."""
+    if len(data) < 24:
+        return ("length",)
+    number, words, at_words, at_tail, count, tail, whole, zero = struct.unpack(RECORD_HEAD, data[:24])
+    if number not in EDITIONS:
+        return ("edition",)
+    edition = EDITIONS[number]
+    true_tail, true_at_tail = count % edition.block, 24 + edition.width.bits
+    rules = {
+        "word count": words == 8,
+        "offset of words": at_words == 24,
+        "offset of tail": at_tail == true_at_tail,
+        "bytes taken": count <= LONGEST,
+        "tail length": tail == true_tail,
+        "record length": whole == true_at_tail + true_tail,
+        "zero": zero == 0,
+        "length": len(data) == true_at_tail + true_tail,
+        "starting words": count >= edition.block or data[24:true_at_tail] == as_bytes(edition.width, edition.start),
+    }
+    return tuple(name for name, kept in rules.items() if not kept)
 
 
 def read_record(data):
-    """Edition, bytes taken, chaining words and tail of what is a record, in either form."""
-    if is_old(data):
-        at_words, count = OLD_AT_WORDS, int.from_bytes(data[8:16], "big")
-    else:
-        at_words, count = AT_WORDS, int.from_bytes(data[8:24], "big") // 8
-    number = int.from_bytes(data[:2], "big")
-    w = EDITIONS[number].width.bits
-    chain = tuple(int.from_bytes(data[at : at + w // 8], "big") for at in range(at_words, at_words + w, w // 8))
-    return number, count, chain, data[at_words + w :]
+    """Edition, bytes taken, chaining words and tail of what is a record."""
+    number, _, _, at_tail, count, _, _, _ = struct.unpack(RECORD_HEAD, data[:24])
+    size = EDITIONS[number].width.bits // 8
+    chain = tuple(int.from_bytes(data[at : at + size], "big") for at in range(24, at_tail, size))
+    return number, count, chain, data[at_tail:]
 
 
 # ---- lists and trees

@@ -5,7 +5,7 @@ import inputs
 import rules
 from calls import Script
 from driver import GUARD_WORDS
-from inputs import EDGES, OTHER_BAYS, OTHER_COUNTS_OF_BAYS, OTHER_EDITIONS, TOP
+from inputs import LONGEST, OTHER_BAYS, OTHER_COUNTS_OF_BAYS, OTHER_EDITIONS, TOP
 from ledger import UNSOUND, Entry
 from rules import BAY, EDITIONS, HEADER, Wrong
 
@@ -77,28 +77,15 @@ class Maker:
             digest = held.edition.digest if entry else rng.choice((28, 32, 48, 64))
             return *inputs.some_closing(rng), inputs.some_output(rng, digest)
         if name == "save":
-            return (inputs.some_output(rng, held.record_length() if entry else rng.choice((64, 96, 127, 223))),)
+            return (inputs.some_output(rng, held.record_length() if entry else rng.choice((56, 88, 119, 215))),)
         if name == "load":
             return (self.some_record(),)
         return ()
 
     def some_record(self):
         rng = self.rng
-        kind = rng.randrange(10)
-        if kind < 6 and self.records:
-            data = rng.choice(self.records)
-            if kind < 2:
-                data = self.aged(data)
-        elif kind < 8:
-            data = rules.record(*inputs.some_state(rng))
-        else:
-            data = rules.old_record(*inputs.some_old_state(rng))
+        data = rng.choice(self.records) if self.records and rng.randrange(2) else rules.record(*inputs.some_state(rng))
         return inputs.damaged_record(rng, data) if rng.randrange(100) < 45 else data
-
-    def aged(self, data):
-        """The record in the old form, where that has one of such a length."""
-        state = rules.read_record(data)
-        return rules.old_record(*state) if state[1] <= rules.OLD_LONGEST else data
 
     def at_once(self):
         rng = self.rng
@@ -106,13 +93,8 @@ class Maker:
         if name == "hash":
             number = inputs.some_edition(rng)
             edition = EDITIONS.get(number, EDITIONS[2])
-            message, closing = inputs.some_message(rng, edition.block), inputs.some_closing(rng)
             output = inputs.some_output(rng, edition.digest)
-            if rng.randrange(8) == 0:
-                message = inputs.unread(rng, 0)
-                if not edition.too_long(0, message):  # then something else is refused, so that no byte is read
-                    closing, output = rng.choice(((closing, (rng.randrange(edition.digest), 0)), ((0xFF, 7), output)))
-            self.call(name, number, message, *closing, output)
+            self.call(name, number, inputs.some_message(rng, edition.block), *inputs.some_closing(rng), output)
         elif name == "tree":
             self.call(name, inputs.some_map(rng), inputs.some_output(rng, 32))
         else:
@@ -120,8 +102,7 @@ class Maker:
             self.call(name, *question[: 3 if name == "judge" else 2])
 
     def restart(self):
-        """Saves what every bay holds, lays out anew, maybe over memory that was lost, and loads into maybe other bays, some of it in the
-        old form."""
+        """Saves what every bay holds, lays out anew, maybe over memory that was lost, and loads into maybe other bays."""
         rng, saved = self.rng, []
         for bay in range(self.bays()):
             held = self.held(bay)
@@ -136,7 +117,7 @@ class Maker:
         rng.shuffle(saved)
         places = rng.sample(range(bays), min(bays, len(saved)))
         for bay, data in zip(places, saved):
-            self.call("load", self.words, bay, data if rng.randrange(4) else self.aged(data))
+            self.call("load", self.words, bay, data)
         self.few = places + rng.sample(range(64), 1)
 
     # ---- steps
@@ -169,7 +150,7 @@ class Damager(Maker):
         if rng.randrange(20):
             return self.words
         near = HEADER + BAY * min([64, *self.model.memory[:1]])
-        return min(self.words, rng.choice((0, 1, 2, 3, 4, 5, 30, 31, 32, near - 1, near, near + 1)))
+        return min(self.words, rng.choice((0, 1, 2, 3, 4, 5, 29, 30, 31, near - 1, near, near + 1)))
 
     def damage(self):
         """One word, or a few, of the header or of a bay."""
@@ -179,7 +160,7 @@ class Damager(Maker):
                 place = rng.randrange(HEADER)
             else:
                 bay = rng.choice(self.few) % bays if rng.randrange(4) else rng.randrange(bays)
-                place = HEADER + BAY * bay + rng.choice((0, 1, 2, rng.randrange(BAY), rng.randrange(BAY)))
+                place = HEADER + BAY * bay + rng.choice((0, 1, rng.randrange(BAY), rng.randrange(BAY)))
             if place < self.words:
                 self.script.write(place, [self.other_value(place)])
                 self.script.coverage.damage(place)
@@ -190,9 +171,9 @@ class Damager(Maker):
             rng.getrandbits(64),
             was ^ 1 << rng.randrange(64),
             was ^ 1 << rng.randrange(32),
-            (was + rng.choice((-1, 1, -8, 8, 512, 1024, -512, -1024, 2**32, 2**40))) % TOP,
+            (was + rng.choice((-1, 1, 64, 128, -64, -128, 2**32, 2**40))) % TOP,
             rng.randrange(70),
-            (8 * rng.choice(EDGES) + rng.choice((-1024, -512, -8, -1, 0, 4, 8, 512, 1024))) % TOP,
+            LONGEST + rng.choice((0, 1, 64, 128)),
             rng.choice(self.model.memory),
             0,
         )
@@ -204,34 +185,32 @@ class Damager(Maker):
         if not bays:
             return
         number, count, chain, tail = inputs.some_state(rng)
-        block = EDITIONS[number].block
+        width, block, _, _ = EDITIONS[number]
         words = rules.bay_words(number, count, chain, tail)
         kind = rng.randrange(10)
         if kind == 0:
             words[0] = rng.choice(OTHER_EDITIONS)
         elif kind == 1:
-            words[1] = rng.choice((1, 1 << rng.randrange(64), rng.getrandbits(64)))
+            words[1] = count % block + LONGEST + block * rng.randrange(1, 2**16)
         elif kind == 2:
-            words[rng.randrange(3, 11)] = 2 ** rng.randrange(32, 64)
+            words[rng.randrange(2, 10)] = 2 ** rng.randrange(32, 64)
         elif kind == 3:
             after = rng.randrange(count % block, 128)
-            words[11 + after // 8] |= 1 << 8 * (7 - after % 8) + rng.randrange(8)
+            words[10 + after // 8] |= 1 << 8 * (7 - after % 8) + rng.randrange(8)
         elif kind == 4:
-            words[1:3] = 0, 8 * (count % block)
+            words[1] = count % block
         elif kind == 5:
             words = [0] * BAY
             words[rng.randrange(1, BAY)] = 1 << rng.randrange(64)
-        elif kind == 6:
-            words[2] |= rng.randrange(1, 8)
         self.script.write(HEADER + BAY * (rng.choice(self.few) % bays), words)
 
     def write_header(self):
-        """As it must be, with any N, or with one word wrong; 26 words of a bay are those of a table from before request 06."""
+        """As it must be, with any N, or with one word wrong."""
         rng, most = self.rng, max(1, self.most())
         header = [rng.randint(1, most), HEADER, BAY, 0]
         if rng.randrange(4) == 0:
             place = rng.randrange(4)
-            header[place] = rng.choice((0, 1, header[place] - 1, header[place] + 1, 65, most + 1, rng.getrandbits(64))) % TOP
+            header[place] = rng.choice((0, 1, header[place] + 1, 65, most + 1, rng.getrandbits(64)))
         self.script.write(0, header[: self.words])
 
     def step(self):
@@ -259,8 +238,8 @@ def some_run(rng):
     bays = rng.choice((1, 1, 2, 2, 3, 3, 4, 5, 6, 8, rng.randint(1, 16), rng.randint(1, 64), rng.choice((63, 64))))
     need, kind = HEADER + BAY * bays, rng.randrange(24)
     if kind == 0:
-        return bays, rng.choice((0, 1, 3, 4, 30, 31, 32))
-    return bays, need + (-1, 0, 0, 0, 1, 1, 26, 27, rng.randrange(2, 60))[(kind - 1) % 9]
+        return bays, rng.choice((0, 1, 3, 4, 29, 30, 31))
+    return bays, need + (-1, 0, 0, 0, 1, 1, 25, 26, rng.randrange(2, 60))[(kind - 1) % 9]
 
 
 def some_memory(rng, words):
@@ -303,7 +282,7 @@ def words_sequence(rng, length, coverage):
 def samples(rng, coverage):
     """SPEC, "Samples", as far as they are calls, with its own numbers, to which the model is held too; and the longest map, and one
     byte less and more."""
-    script = Script("ledger", some_memory(rng, 1732), coverage, rng)
+    script = Script("ledger", some_memory(rng, 1668), coverage, rng)
 
     def expect(told, name, *args):
         answer = script.call(name, *args)
@@ -311,49 +290,30 @@ def samples(rng, coverage):
             raise Wrong(f"{script.steps[-1]} is {told} in the samples, and {answer.number} by the model")
         return answer
 
-    # one bay fits 31 words and not 30, and 64 bays 1,732 and not 1,731
-    expect(11, "lay_out", 30, 1)
-    expect(0, "lay_out", 31, 1)
-    expect(11, "lay_out", 1731, 64)
-    expect(0, "lay_out", 1732, 64)
-    # a bay at the limit, of 2^64 - 8 or 2^128 - 8 bits, takes an add of no bytes, refuses one of a byte, and still closes with 7 bits
-    for number, edition in EDITIONS.items():
-        count = (2**64 if number < 3 else 2**128) // 8 - 1
-        chain = [rng.getrandbits(edition.width.bits) for _ in range(8)]
-        expect(0, "load", 1732, number, rules.record(number, count, chain, rng.randbytes(edition.block - 1)))
-        expect(0, "add", 1732, number, b"")
-        expect(7, "add", 1732, number, b"a")
-        if expect(0, "ask", 1732, number).values != (number, 0 if number < 3 else 2**64 - 1, 2**64 - 8):
-            raise Wrong("the length at the limit is told otherwise")
-        expect(0, "close", 1732, number, 0xAA, 7, (edition.digest, 0))
-    # the most bytes that the old form has, and a byte more: one of them takes further bytes now
+    # one bay fits 30 words and not 29, and 64 bays 1,668 and not 1,667
+    expect(11, "lay_out", 29, 1)
+    expect(0, "lay_out", 30, 1)
+    expect(11, "lay_out", 1667, 64)
+    expect(0, "lay_out", 1668, 64)
+    # a bay at the length limit takes an add of no bytes, refuses one of a byte, and still closes with 7 bits
     for number, edition in EDITIONS.items():
         chain = [rng.getrandbits(edition.width.bits) for _ in range(8)]
-        expect(10, "load", 1732, number, rules.old_record(number, 2**40 + 1, chain, b"a"))
-        expect(0, "load", 1732, number, rules.old_record(number, 2**40, chain, b""))
-        expect(0, "add", 1732, number, b"a")
-        if expect(0, "ask", 1732, number).values != (number, 0, 2**43 + 8):
-            raise Wrong("the length after 2^40 bytes and one is told otherwise")
-        expect(0, "close", 1732, number, 0xAA, 7, (edition.digest, 0))
+        expect(0, "load", 1668, number, rules.record(number, 2**40, chain, b""))
+        expect(0, "add", 1668, number, b"")
+        expect(7, "add", 1668, number, b"a")
+        expect(0, "ask", 1668, number)
+        expect(0, "close", 1668, number, 0xAA, 7, (edition.digest, 0))
     # a set bit below the closing bits is judged before an output that is a byte too short
-    expect(0, "open", 1732, 0, 2)
-    expect(0, "add", 1732, 0, b"abc")
-    expect(9, "save", 1732, 0, (66, 0))
-    record = expect(0, "save", 1732, 0, (67, 0)).wrote
-    expect(8, "close", 1732, 0, 0x68, 4, (32, 0))
-    expect(9, "close", 1732, 0, 0, 0, (31, 0))
-    expect(8, "close", 1732, 0, 0x68, 4, (31, 0))
-    expect(0, "close", 1732, 0, 0x68, 5, (32, 0))
-    # the record of edition 2 after `abc`, and the old one, which loads as the same
-    start = record[32:64]
-    if record != bytes.fromhex("0002000800200040" + "00" * 15 + "18" + "0003004300000000") + start + b"abc":
+    expect(0, "open", 1668, 0, 2)
+    expect(0, "add", 1668, 0, b"abc")
+    record = expect(0, "save", 1668, 0, (59, 0)).wrote
+    expect(8, "close", 1668, 0, 0x68, 4, (32, 0))
+    expect(9, "close", 1668, 0, 0, 0, (31, 0))
+    expect(8, "close", 1668, 0, 0x68, 4, (31, 0))
+    expect(0, "close", 1668, 0, 0x68, 5, (32, 0))
+    # the record of edition 2 after `abc`, but for its starting words; the list of edition 2 with no entries
+    if record[:24].hex() != "0002000800180038" + "00" * 7 + "03" + "0003003b00000000" or record[56:] != b"abc":
         raise Wrong("the record after abc is not the one of the samples")
-    old = bytes.fromhex("0002000800180038" + "00" * 7 + "03" + "0003003b00000000") + start + b"abc"
-    expect(0, "load", 1732, 0, old)
-    if expect(0, "save", 1732, 0, (67, 0)).wrote != record:
-        raise Wrong("the old record after abc is saved as another")
-    expect(0, "close", 1732, 0, 0, 0, (32, 0))
-    # the list of edition 2 with no entries
     expect(13, "lookup", bytes.fromhex("00020000" + 3 * "00000010"), b"yard.map")
     for more, told in ((-1, 0), (0, 0), (1, 7)):
         expect(told, "tree", rng.randbytes(1_048_576 + more), (32, 0))

@@ -4,7 +4,7 @@ import struct
 
 import rules
 from ledger import UNSOUND, Calls, Entry, no_layout
-from rules import BAY, EDITIONS, HEADER, WORD
+from rules import BAY, EDITIONS, HEADER
 
 
 class Words(Calls):
@@ -28,8 +28,8 @@ class Words(Calls):
             return None
         if rules.bay_faults(words):
             return UNSOUND
-        number, count, chain = words[0], (words[1] * WORD + words[2]) // 8, tuple(words[3:11])
-        tail = struct.pack(">16Q", *words[11:])[: count % EDITIONS[number].block]
+        number, count, chain = words[0], words[1], tuple(words[2:10])
+        tail = struct.pack(">16Q", *words[10:])[: count % EDITIONS[number].block]
         return Entry(number, chain, count - len(tail), tail)
 
     def find(self, words, bay):

@@ -10,7 +10,7 @@ _Noreturn void _exit(int status);
 enum { STACK = 1 << 16, PAINT = 0xa5, BAYS = 64, WORDS = DW_TABLE_WORDS(BAYS), MAP = DW_LONGEST_MAP, LIST = 34832 };
 
 static _Alignas(16) uint8_t stack[STACK];
-static uint64_t table[WORDS], stream[DW_STREAM_WORDS], keyed[DW_KEYED_WORDS], edition, high, low, sound;
+static uint64_t table[WORDS], stream[DW_STREAM_WORDS], keyed[DW_KEYED_WORDS], edition, count, sound;
 static uint8_t map[MAP + 1], list[LIST], record[DW_LONGEST_RECORD], tag[DW_LONGEST_DIGEST], out[256];
 static size_t list_n, at, len, n;
 static uint64_t number;
@@ -79,7 +79,7 @@ static void half_table(void)
 static void saved(void)
 {
     half_table();
-    sound |= dw_ask(table, WORDS, BAYS - 1, &edition, &high, &low);
+    sound |= dw_ask(table, WORDS, BAYS - 1, &edition, &count);
     sound |= dw_save(table, WORDS, BAYS - 1, record, sizeof record);
     empty_table();
 }
@@ -103,7 +103,7 @@ static void make_keyed(void)
     sound |= dw_keyed_start(keyed, DW_KEYED_WORDS, u_edition, map, u_key);
     sound |= dw_keyed_add(keyed, DW_KEYED_WORDS, map, n);
     sound |= dw_keyed_tag(keyed, DW_KEYED_WORDS, tag, sizeof tag);
-    keyed[26] |= u_damage;
+    keyed[25] |= u_damage;
 }
 static void nothing(void) {}
 
@@ -114,8 +114,8 @@ static void use_open(void) { number = dw_open(table, WORDS, u_bay, u_edition); }
 static void use_add(void) { number = dw_add(table, WORDS, u_bay, map, u_n); }
 static void use_close(void) { number = dw_close(table, WORDS, u_bay, u_closing, u_bits, out, u_out); }
 static void use_save(void) { number = dw_save(table, WORDS, u_bay, out, u_out); }
-static void use_load(void) { number = dw_load(table, WORDS, u_bay, record, DW_RECORD_BYTES(edition, low)); }
-static void use_ask(void) { number = dw_ask(table, WORDS, u_bay, &edition, &high, &low); }
+static void use_load(void) { number = dw_load(table, WORDS, u_bay, record, DW_RECORD_BYTES(edition, count)); }
+static void use_ask(void) { number = dw_ask(table, WORDS, u_bay, &edition, &count); }
 static void use_drop(void) { number = dw_drop(table, WORDS, u_bay); }
 static void use_tree(void) { number = dw_tree(map, u_n, out, u_out); }
 static void use_judge(void) { number = dw_judge(list, list_n, list + list_n - 3, 3, list + 24, u_n); }

@@ -260,16 +260,13 @@ def limit():
                     case.add(b"")
                     case.add(b"\x00")
                     case.add(FAR + 1)
-                    case.add(2**64 - LIMIT)
-                    case.add(2**64 - 1)
                     case.root()
                 yield case
     # streams that were begun and fed: a refusal leaves them as they are
     for n in (0, 1, 5000):
-        for more in (LIMIT - n + 1, LIMIT + 1, LIMIT + CHUNK, LIMIT + 2**32, 2**61, 2**63, 2**64 - CHUNK, 2**64 - max(n, 1), 2**64 - 1):
+        for more in (LIMIT - n + 1, LIMIT + 1, LIMIT + CHUNK, LIMIT + 2**32):
             this = Map(rng.randbytes(n))
             case = fed(this, (n,))
-            # past ZEROS a piece cannot be read: it is refused by its length alone, which with the bytes before it is none of 64 bits
             case.add(more)
             case.ask(this, n)
             yield case

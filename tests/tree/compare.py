@@ -10,7 +10,7 @@ import sys
 from parts import Parts, vectors
 from rules import old_tree, tree
 
-from driver import ALIGNED, FAR, ZEROS, Call, compare
+from driver import ALIGNED, FAR, Call, compare
 from trees import CHUNK, NODE
 
 LIMIT = 1_048_576
@@ -40,8 +40,8 @@ def maps():
         yield rng.randbytes(rng.randrange(5000)), size
     for size in (0, 31, 32, 64):
         yield bytes(LIMIT + 1), size
-    # more bytes than are sent: a number is lent as so many zeros, and past ZEROS as bytes that cannot be read
-    for n in (FAR + 1, 2**32, 2**32 + CHUNK, 2**40, 2**40 + 1, ZEROS + 1, 2**61, 2**61 + CHUNK, 2**63, 2**64 - CHUNK, 2**64 - 1):
+    # more bytes than are sent: a number is lent as so many zeros
+    for n in (FAR + 1, 2**32, 2**32 + CHUNK, 2**40, 2**40 + 1):
         for size in (0, 31, 32, 64):
             yield n, size
 

@@ -1,7 +1,7 @@
 """Yards, each checked by the program and compared with what SPEC says of it: every byte of standard output and the exit status. What
 each name opens is known from how the yard was made, so nothing is read back to know what to expect.
 
-Not tried: a file of 2^61 bytes, which is too long in SHA-224 and SHA-256, and is none that a disk has; a fifo, which may wait for ever.
+Not tried: a file of over 2^40 bytes, which would have to be read to its end (a sparse one too: hours); a fifo, which may wait for ever.
 """
 import os
 import resource

@@ -1,7 +1,7 @@
 """Folders, each listed by bin/yardlist and compared with what SPEC says: the list byte for byte, the line, the exit status, standard error,
 and what else is in the folder afterwards. The lists to compare with are made by tests/yardcheck/rules.py with Python's hashlib.
 
-Not tried: a file of 2^61 bytes, which is too long in SHA-224 and SHA-256, and is none that a disk has.
+Not tried: a file of over 2^40 bytes, which would have to be read that far (a sparse one too: hours).
 """
 import os
 import resource

@@ -5,7 +5,7 @@ use Prim.Native.Nat.{ℕ, suc, ◌+◌, ◌-◌, ◌/◌, ◌%◌, ◌^◌, ◌�
 use mathlib.Core.Bool.{Bool, true, false}
 use mathlib.Core.List.{List}
 use mathlib.Core.Logic.{◌⊎◌, inl, inr, ⊎_elim}
-use mathlib.Core.Path.{◌≡◌, refl, sym, ap, ap₂, subst, ◌∙◌}
+use mathlib.Core.Path.{◌≡◌, refl, sym, ap, subst, ◌∙◌}
 use native.Mathlib.Nat.{mod-lt}
 use native.Mathlib.Omega.{arith}
 use lib.Dec.{eqb, lit<}
@@ -20,9 +20,8 @@ use Rattle.halfread.specs.declared.HalfRead.{HalfRead}
 use Rattle.halfread.specs.State.{Shaped, sound, tail_room}
 use Rattle.halfread.proofs.ByRules.{sound-rules, keeps-alike}
 use Rattle.halfread.proofs.Fields.{same-state}
-use Rattle.dwsha2.specs.Length.{joined}
 use Rattle.bays.specs.Places.{bay_words, place_of}
-use Rattle.bays.specs.Places.{edition_word, high_word, low_word, chain_from, chain_words, tail_from, tail_words}
+use Rattle.bays.specs.Places.{edition_word, count_word, chain_from, chain_words, tail_from, tail_words}
 use Rattle.bays.specs.Table.{bay_at, put_bay}
 use Rattle.bays.specs.Bay.{half_of, bay_of, is_empty, sound_bay}
 use Rattle.bays.specs.ByWords.{word_at, byte_of_word, ByWords, Vacant, TakenRules}
@@ -32,10 +31,10 @@ use Rattle.bays.proofs.Packing.{length-bay_of, half_of-bay_of, bay_of-half_of, e
 use Rattle.bays.proofs.Packing.{sound_bay-empty, sound_bay-taken}
 use Rattle.bays.proofs.TableByWords.{word-of-bay}
 
--- SPEC's numbers in a bay: the edition, the length's words, the chaining words and how many, the tail, its words and its bytes
-pub bay-places : (edition_word ≡ 0) × (high_word ≡ 1) × (low_word ≡ 2) × (chain_from ≡ 3) × (chain_words ≡ 8) × (tail_from ≡ 11)
-    × (tail_words ≡ 16) × (tail_room ≡ 128)
-bay-places = (refl, refl, refl, refl, refl, refl, refl, refl)
+-- SPEC's numbers in a bay: the edition, the count, the chaining words and how many, the tail, its words and its bytes
+pub bay-places : (edition_word ≡ 0) × (count_word ≡ 1) × (chain_from ≡ 2) × (chain_words ≡ 8) × (tail_from ≡ 10) × (tail_words ≡ 16)
+    × (tail_room ≡ 128)
+bay-places = (refl, refl, refl, refl, refl, refl, refl)
 
 -- ---- what a bay holds
 
@@ -44,8 +43,7 @@ by-words-alike : (bay bay' : ℕ → ℕ) (h : HalfRead) → ((j : ℕ) → j < 
 by-words-alike bay bay' h e r =
     record {
       edition = r.edition ∙ e edition_word (lit< tt);
-      high = r.high ∙ e high_word (lit< tt);
-      low = r.low ∙ e low_word (lit< tt);
+      count = r.count ∙ e count_word (lit< tt);
       chain = λ j p. r.chain j p ∙ e (chain_from + j) (omega arith);
       tail = λ k p. r.tail k p ∙ ap (λ (x : ℕ). byte_of_word x (k % 8)) (e (tail_from + k / 8) (omega arith));
     }
@@ -55,8 +53,7 @@ unfolding half_of
 half-by-words b fits =
     record {
       edition = refl;
-      high = refl;
-      low = refl;
+      count = refl;
       chain = λ j p. get_or-take chain_words (drop chain_from b) j 0 p ∙ get_or-drop chain_from b j 0;
       tail = λ k p.
           let i = k % 8 in
@@ -94,8 +91,7 @@ by-words-only b h fits small s r =
     let tail : h.tail ≡ (half_of b).tail =
     ext_get_or 0 h.tail (half_of b).tail (s.wide ∙ sym (wide-half_of b fits))
     (λ k p. r.tail k (omega (arith, s.wide)) ∙ sym (o.tail k (omega (arith, s.wide)))) in
-    let is : h ≡ half_of b =
-    same-state h (half_of b) (r.edition ∙ sym o.edition) (r.high ∙ sym o.high) (r.low ∙ sym o.low) words tail in
+    let is : h ≡ half_of b = same-state h (half_of b) (r.edition ∙ sym o.edition) (r.count ∙ sym o.count) words tail in
     sym (bay_of-half_of b fits small) ∙ sym (ap bay_of is)
 
 -- ---- a bay that is sound, rule by rule
@@ -113,10 +109,9 @@ module _ (b : List ℕ) (fits : length b ≡ bay_words) (bay : ℕ → ℕ) (is 
   taken-read =
       let r = by-words-alike (λ j. get_or b j 0) bay (half_of b) is (half-by-words b fits) in
       let both = sound-rules (half_of b) (eight-half_of b fits) (wide-half_of b fits) in (
-        λ e. keeps-alike r.edition (ap₂ joined r.high r.low) r.chain r.tail (both.0 e),
+        λ e. keeps-alike r.edition r.count r.chain r.tail (both.0 e),
         λ k. both.1
-            (keeps-alike (sym r.edition) (ap₂ joined (sym r.high) (sym r.low)) (λ j p. sym (r.chain j p))
-            (λ j p. sym (r.tail j p)) k),
+            (keeps-alike (sym r.edition) (sym r.count) (λ j p. sym (r.chain j p)) (λ j p. sym (r.tail j p)) k),
       )
 
   sound-read : (sound_bay b ≡ true → Vacant bay ⊎ TakenRules bay) × (Vacant bay ⊎ TakenRules bay → sound_bay b ≡ true)

@@ -22,7 +22,7 @@ use Rattle.halfread.specs.declared.HalfRead.{HalfRead}
 use Rattle.halfread.specs.State.{Shaped, sound, blank, tail_room}
 use Rattle.slices.proofs.Tests.{all_zero-zeros, zeros-all_zero}
 use Rattle.bays.specs.Places.{bay_words}
-use Rattle.bays.specs.Places.{edition_word, high_word, low_word, chain_from, chain_words, tail_from, tail_words}
+use Rattle.bays.specs.Places.{edition_word, count_word, chain_from, chain_words, tail_from, tail_words}
 use Rattle.bays.specs.Bay.{half_of, bay_of, is_empty, empty_bay, sound_bay}
 
 -- ---- there and back
@@ -39,10 +39,9 @@ module _ (h : HalfRead) (s : Shaped h) where
   unfolding bay_of
   below-bay_of =
       let rest = h.words ++ to_words tail_words 8 h.tail in
-      below-cons (h.high ∷ h.low ∷ rest) s.number
-      (below-cons (h.low ∷ rest) s.upper
-      (below-cons rest s.lower
-      (below-append h.words (to_words tail_words 8 h.tail) s.fitting (to_words-below tail_words 8 h.tail s.bytes))))
+      below-cons (h.count ∷ rest) s.number
+      (below-cons rest s.counted
+      (below-append h.words (to_words tail_words 8 h.tail) s.fitting (to_words-below tail_words 8 h.tail s.bytes)))
 
   pub half_of-bay_of : half_of (bay_of h) ≡ h
   unfolding half_of bay_of
@@ -51,7 +50,7 @@ module _ (h : HalfRead) (s : Shaped h) where
       let words : take chain_words (h.words ++ t) ≡ h.words = take_at h.words t chain_words s.eight in
       let tail : from_words 8 (drop chain_words (h.words ++ t)) ≡ h.tail =
       ap (from_words 8) (drop_at h.words t chain_words s.eight) ∙ from_words-to_words-all tail_words 8 h.tail s.bytes s.wide in
-      λ i. record { edition = h.edition; high = h.high; low = h.low; words = words i; tail = tail i }
+      λ i. record { edition = h.edition; count = h.count; words = words i; tail = tail i }
 
 pub eight-half_of : (b : List ℕ) → length b ≡ bay_words → length (half_of b).words ≡ chain_words
 unfolding half_of
@@ -69,8 +68,7 @@ module _ (b : List ℕ) (fits : length b ≡ bay_words) (words : Below (2 ^ 64) 
         eight = eight-half_of b fits;
         wide = wide-half_of b fits;
         number = words edition_word;
-        upper = words high_word;
-        lower = words low_word;
+        counted = words count_word;
         fitting = below-take chain_words (drop chain_from b) (below-drop chain_from b words);
         bytes = from_words-bytes 8 (drop tail_from b);
       }
@@ -87,15 +85,14 @@ module _ (b : List ℕ) (fits : length b ≡ bay_words) (words : Below (2 ^ 64) 
       let words : take chain_words (drop chain_from b) ++ to_words tail_words 8 (from_words 8 (drop tail_from b)) ≡ drop chain_from b =
       ap (λ (l : List ℕ). take chain_words (drop chain_from b) ++ l) (tail-back ∙ sym (drop-drop chain_words chain_from b))
       ∙ take-append-drop chain_words (drop chain_from b) in
-      rw words
-      (rw (← drop-cons b low_word 0 (omega arith), ← drop-cons b high_word 0 (omega arith)) (sym (drop-cons b edition_word 0 (omega arith))))
+      rw words (rw (← drop-cons b count_word 0 (omega arith)) (sym (drop-cons b edition_word 0 (omega arith))))
 
 -- ---- as the code has it
 
 -- eight words copied over eight others, and the bytes of sixteen put over a tail
 pub unpacked : (b words tail eight old : List ℕ) → length b ≡ bay_words → length eight ≡ chain_words → length old ≡ tail_room →
     words ≡ at_front (take chain_words (drop chain_from b)) eight → tail ≡ with_words 8 (take (length b - tail_from) (drop tail_from b)) old →
-    half_of b ≡ record { edition = get_or b edition_word 0; high = get_or b high_word 0; low = get_or b low_word 0; words = words; tail = tail }
+    half_of b ≡ record { edition = get_or b edition_word 0; count = get_or b count_word 0; words = words; tail = tail }
 unfolding half_of
 unpacked b words tail eight old fits e long w t =
     let part : length (take chain_words (drop chain_from b)) ≡ length eight = simp (length-take, length-drop, fits) (sym e) in
@@ -107,18 +104,16 @@ unpacked b words tail eight old fits e long w t =
     t ∙ ap (λ (l : List ℕ). with_words 8 l old) all ∙ with_words-all 8 (drop tail_from b) old (omega arith) room in
     rw (chain, bytes)
 
-three-set : (b : List ℕ) (e u l : ℕ) → chain_from ≤ length b →
-    take chain_from (set (set (set b edition_word e) high_word u) low_word l) ≡ e ∷ u ∷ l ∷ []
-three-set [] e u l h = absurd (omega arith)
-three-set (x ∷ []) e u l h = absurd (omega arith)
-three-set (x ∷ y ∷ []) e u l h = absurd (omega arith)
-three-set (x ∷ y ∷ z ∷ xs) e u l h = refl
+two-set : (b : List ℕ) (e c : ℕ) → chain_from ≤ length b → take chain_from (set (set b edition_word e) count_word c) ≡ e ∷ c ∷ []
+two-set [] e c h = absurd (omega arith)
+two-set (x ∷ []) e c h = absurd (omega arith)
+two-set (x ∷ y ∷ xs) e c h = refl
 
--- three words set, eight copied, sixteen made of the tail: each part behind the ones before it
-module _ (b : List ℕ) (e u l : ℕ) (words copied : List ℕ) (fits : length b ≡ bay_words) (eight : length words ≡ chain_words)
-    (came : copied ≡ at_front words (take chain_words (drop chain_from (set (set (set b edition_word e) high_word u) low_word l)))) where
+-- two words set, eight copied, sixteen made of the tail: each part behind the ones before it
+module _ (b : List ℕ) (e c : ℕ) (words copied : List ℕ) (fits : length b ≡ bay_words) (eight : length words ≡ chain_words)
+    (came : copied ≡ at_front words (take chain_words (drop chain_from (set (set b edition_word e) count_word c)))) where
   abbrev begun : List ℕ
-  begun = set (set (set b edition_word e) high_word u) low_word l
+  begun = set (set b edition_word e) count_word c
 
   abbrev half-done : List ℕ
   half-done = take chain_from begun ++ (copied ++ drop chain_words (drop chain_from begun))
@@ -135,25 +130,24 @@ module _ (b : List ℕ) (e u l : ℕ) (words copied : List ℕ) (fits : length b
   pub half-long : length half-done ≡ bay_words
   half-long = simp (length-append, length-take, length-drop) (omega (arith, begun-long, ap length copied_is))
 
-  front-three : take chain_from begun ≡ e ∷ u ∷ l ∷ []
-  front-three = three-set b e u l (omega arith)
+  front-two : take chain_from begun ≡ e ∷ c ∷ []
+  front-two = two-set b e c (omega arith)
 
-  front-chain : take tail_from half-done ≡ e ∷ u ∷ l ∷ words
-  front-chain =
-      rw (front-three, copied_is)
-      (ap (λ (ws : List ℕ). e ∷ u ∷ l ∷ ws) (take_at words (drop chain_words (drop chain_from begun)) chain_words eight))
+  front-ten : take tail_from half-done ≡ e ∷ c ∷ words
+  front-ten =
+      rw (front-two, copied_is) (ap (λ (l : List ℕ). e ∷ c ∷ l) (take_at words (drop chain_words (drop chain_from begun)) chain_words eight))
 
   pub packed : (tail new : List ℕ) → Bytes tail →
       new ≡ map word64 (to_words (length (take (length half-done - tail_from) (drop tail_from half-done))) 8 tail) →
       take tail_from half-done ++ (new ++ drop (length half-done - tail_from) (drop tail_from half-done))
-      ≡ e ∷ u ∷ l ∷ (words ++ to_words tail_words 8 tail)
+      ≡ e ∷ c ∷ (words ++ to_words tail_words 8 tail)
   packed tail new bytes made =
       let rest : length (drop tail_from half-done) ≡ length half-done - tail_from = length-drop tail_from half-done in
       let part : length (take (length half-done - tail_from) (drop tail_from half-done)) ≡ tail_words =
       length-take (length half-done - tail_from) (drop tail_from half-done) ∙ omega (arith, rest, half-long) in
       let is : new ≡ to_words tail_words 8 tail =
       made ∙ ap (λ (k : ℕ). map word64 (to_words k 8 tail)) part ∙ to_words-word64 tail_words 8 tail bytes (omega arith) in
-      rw (front-chain, drop_of_length-le (drop tail_from half-done) {i = length half-done - tail_from} (omega arith), append-nil, is)
+      rw (front-ten, drop_of_length-le (drop tail_from half-done) {i = length half-done - tail_from} (omega arith), append-nil, is)
 
 -- ---- an empty bay
 

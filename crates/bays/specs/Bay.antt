@@ -5,20 +5,19 @@ use Rattle.slices.specs.Tests.{all_zero}
 use Rattle.bigendian.specs.Words.{from_words, to_words}
 use Rattle.halfread.specs.declared.HalfRead.{HalfRead}
 use Rattle.halfread.specs.State.{sound}
-use Rattle.bays.specs.Places.{edition_word, high_word, low_word, chain_from, chain_words, tail_from, tail_words, bay_words}
+use Rattle.bays.specs.Places.{edition_word, count_word, chain_from, chain_words, tail_from, tail_words, bay_words}
 
 unfoldable pub half_of : List ℕ → HalfRead
 half_of b =
     record {
       edition = get_or b edition_word 0;
-      high = get_or b high_word 0;
-      low = get_or b low_word 0;
+      count = get_or b count_word 0;
       words = part b chain_from chain_words;
       tail = from_words 8 (drop tail_from b);
     }
 
 unfoldable pub bay_of : HalfRead → List ℕ
-bay_of h = h.edition ∷ h.high ∷ h.low ∷ (h.words ++ to_words tail_words 8 h.tail)
+bay_of h = h.edition ∷ h.count ∷ (h.words ++ to_words tail_words 8 h.tail)
 
 -- empty: no word is other than 0
 unfoldable pub is_empty : List ℕ → Bool

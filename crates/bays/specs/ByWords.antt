@@ -4,9 +4,8 @@ use Rattle.std.specs.Prelude.{ℕ, ◌+◌, ◌-◌, ◌/◌, ◌%◌, ◌^◌, 
 use Rattle.halfread.specs.declared.HalfRead.{HalfRead}
 use Rattle.halfread.specs.State.{tail_room}
 use Rattle.halfread.specs.FiveRules.{FiveRules}
-use Rattle.dwsha2.specs.Length.{joined}
 use Rattle.bays.specs.Places.{bays_word, first_word, size_word, zero_word, first_bay, most_bays, bay_words, place_of}
-use Rattle.bays.specs.Places.{edition_word, high_word, low_word, chain_from, chain_words, tail_from}
+use Rattle.bays.specs.Places.{edition_word, count_word, chain_from, chain_words, tail_from}
 
 -- the first four words, and as many behind them as they say
 pub record TableRules (t : List ℕ) : Type 0 where
@@ -46,8 +45,7 @@ module _ (bay : ℕ → ℕ) where
   -- what it holds
   pub record ByWords (h : HalfRead) : Type 0 where
     pub edition : h.edition ≡ bay edition_word
-    pub high : h.high ≡ bay high_word
-    pub low : h.low ≡ bay low_word
+    pub count : h.count ≡ bay count_word
     pub chain : (j : ℕ) → j < chain_words → get_or h.words j 0 ≡ bay (chain_from + j)
     pub tail : (k : ℕ) → k < tail_room → get_or h.tail k 0 ≡ tail_byte k
 
@@ -57,4 +55,4 @@ module _ (bay : ℕ → ℕ) where
 
   -- taken, and the five rules kept: edition, length, words, tail, start
   abbrev pub TakenRules : Type 0
-  TakenRules = FiveRules (bay edition_word) (joined (bay high_word) (bay low_word)) (λ j. bay (chain_from + j)) tail_byte
+  TakenRules = FiveRules (bay edition_word) (bay count_word) (λ j. bay (chain_from + j)) tail_byte

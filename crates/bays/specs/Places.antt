@@ -22,18 +22,15 @@ first_bay = 4
 abbrev pub most_bays : ℕ
 most_bays = 64
 
--- a bay: the edition, the length's two words, the chaining words, the words of the tail
+-- a bay: the edition, the bytes taken, the chaining words, the words of the tail
 abbrev pub edition_word : ℕ
 edition_word = 0
 
-abbrev pub high_word : ℕ
-high_word = 1
-
-abbrev pub low_word : ℕ
-low_word = 2
+abbrev pub count_word : ℕ
+count_word = 1
 
 abbrev pub chain_from : ℕ
-chain_from = 3
+chain_from = 2
 
 abbrev pub chain_words : ℕ
 chain_words = chain_room

@@ -6,14 +6,12 @@ ghost use Rattle.bays.specs.Bay.{half_of, bay_of};
 use halfread::HalfRead;
 use slices::front::put_words_front;
 
-// Where they stand: the edition, the length's two words, the chaining words, and the tail, whose words go to the bay's end.
+// Where they stand: the edition, the bytes taken, the chaining words, and the tail, whose words go to the bay's end.
 const EDITION: usize = 0;
 
-const HIGH: usize = 1;
+const COUNT: usize = 1;
 
-const LOW: usize = 2;
-
-const CHAIN: usize = 3;
+const CHAIN: usize = 2;
 
 const TAIL: usize = CHAIN + 8;
 
@@ -30,8 +28,7 @@ pub(crate) fn unpack(bay: &[u64]) -> HalfRead
     bigendian::put_words(&mut tail, &bay[TAIL..], 8);
     HalfRead {
         edition: bay[EDITION],
-        high: bay[HIGH],
-        low: bay[LOW],
+        count: bay[COUNT],
         words,
         tail,
     }
@@ -44,8 +41,7 @@ pub(crate) fn pack(bay: &mut [u64], half: HalfRead)
     let words = half.words;
     let tail = half.tail;
     bay[EDITION] = half.edition;
-    bay[HIGH] = half.high;
-    bay[LOW] = half.low;
+    bay[COUNT] = half.count;
     put_words_front(&mut bay[CHAIN..TAIL], &words);
     bigendian::get_words(&mut bay[TAIL..], &tail, 8);
 }

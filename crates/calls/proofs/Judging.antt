@@ -189,6 +189,6 @@ module _ (t : List ℕ) (i : ℕ) (gate : first (gate_tests t i) ≡ 0) where
 -- ---- ask: what a sound bay holds, and nothing where it is refused
 
 pub asked : (t : List ℕ) (i : ℕ) {n : ℕ} {h : HalfRead} → Judged (sound_tests t i) blank (half_at t i) n h →
-    Asks t i n (told h.edition h.high h.low)
+    Asks t i n (told h.edition h.count)
 unfolding tests tells blank
-asked t i j = judged-map (λ (h : HalfRead). told h.edition h.high h.low) j
+asked t i j = judged-map (λ (h : HalfRead). told h.edition h.count) j

@@ -36,7 +36,7 @@ module _ {A : Type 0} {p q : A × Lent} where
 
 -- an answer and what ask tells as one struct
 abbrev whole : Answer × Told → Asked
-whole p = record { answer = p.0; edition = p.1.edition; high = p.1.high; low = p.1.low }
+whole p = record { answer = p.0; edition = p.1.edition; count = p.1.count }
 
 pub lay-out-settled : Settles {A = Answer × List ℕ} lay-out.ended lay-out-reads.Learnt (λ κs r x. (r, x.0.now))
 lay-out-settled κs a r s x y j k = table-shown (answer-both j.0 k.0)

@@ -7,7 +7,6 @@ use Rattle.slices.specs.AtFront.{at_front}
 use Rattle.slices.specs.Below.{Below, Bytes}
 use Rattle.dwsha2.specs.Limit.{too_long}
 use Rattle.dwsha2.specs.Closing.{closing_fits}
-use Rattle.halfread.specs.State.{count}
 use Rattle.halfread.specs.Steps.{opened, added, closed_digest}
 use Rattle.records.specs.Record.{record_of, record_length, loaded, is_record}
 use Rattle.bays.specs.Table.{put_bay, laid_out}
@@ -25,17 +24,16 @@ pub data Call : Type 0 where
   asking : (bay : ℕ) → Call
   dropping : (bay : ℕ) → Call
 
--- what ask tells of a bay: its edition, and its length in bits, the high word and the low one
+-- what ask tells of a bay: its edition and its count
 pub record Told : Type 0 where
   pub edition : ℕ
-  pub high : ℕ
-  pub low : ℕ
+  pub count : ℕ
 
-abbrev pub told : ℕ → ℕ → ℕ → Told
-told e high low = record { edition = e; high = high; low = low }
+abbrev pub told : ℕ → ℕ → Told
+told e c = record { edition = e; count = c }
 
 abbrev pub nothing_told : Told
-nothing_told = told 0 0 0
+nothing_told = told 0 0
 
 -- the output that is lent with the call
 abbrev pub output_of : Call → List ℕ
@@ -70,7 +68,7 @@ module _ (t : List ℕ) where
   tests (lay_out n) = layout_tests t n
   tests (opening i e) = gate_tests t i ++ (5 when not (known e) ∷ not_sound t i ∷ occupied t i ∷ [])
   tests (adding i piece) = gate_tests t i ++
-      (not_sound t i ∷ vacant t i ∷ 7 when too_long (half_at t i).edition (count (half_at t i)) (length piece) ∷ [])
+      (not_sound t i ∷ vacant t i ∷ 7 when too_long (half_at t i).edition (half_at t i).count (length piece) ∷ [])
   tests (closing i x b out) =
       gate_tests t i
       ++ (not_sound t i ∷ vacant t i ∷ 8 when not (closing_fits x b) ∷ 9 when ltb (length out) (digest_bytes (half_at t i).edition) ∷ [])
@@ -98,7 +96,7 @@ module _ (t : List ℕ) where
   tells (closing i x b out) = nothing_told
   tells (saving i out) = nothing_told
   tells (loading i bytes) = nothing_told
-  tells (asking i) = told (half_at t i).edition (half_at t i).high (half_at t i).low
+  tells (asking i) = told (half_at t i).edition (half_at t i).count
   tells (dropping i) = nothing_told
 
 -- ---- what a call did: the relation that the contracts, the C names and the theorems cite

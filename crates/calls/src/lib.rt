@@ -109,17 +109,16 @@ pub fn load(table: &mut [u64], bay: u64, record: &[u8]) -> Answer
     Answer::Done
 }
 
-// What ask tells: the edition, and the length in bits in two words; all three 0 for an empty bay or a refusal.
+// What ask tells: edition and bytes taken, both 0 for an empty bay or a refusal.
 #[derive(Drop)]
 pub struct Asked {
     pub answer: Answer,
     pub edition: u64,
-    pub high: u64,
-    pub low: u64,
+    pub count: u64,
 }
 
 pub fn ask(table: &[u64], bay: u64) -> Asked
-    ensures asks { Asks table.now bay (number_of result.answer) (told result.edition result.high result.low) }
+    ensures asks { Asks table.now bay (number_of result.answer) (told result.edition result.count) }
     ensures lends { Lends table.now (Call.asking bay) }
 {
     let held = sound_at(table, bay);
@@ -128,8 +127,7 @@ pub fn ask(table: &[u64], bay: u64) -> Asked
     Asked {
         answer,
         edition: half.edition,
-        high: half.high,
-        low: half.low,
+        count: half.count,
     }
 }
 

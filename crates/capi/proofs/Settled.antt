@@ -80,9 +80,8 @@ dw-load-settled κs a r s x y j k = table-shown (number-both j.0 k.0)
 pub dw-drop-settled : Settles {A = ℕ × List ℕ} dw-drop.ended dw-drop-reads.Learnt (λ κs r x. (r, x.0.now))
 dw-drop-settled κs a r s x y j k = table-shown (number-both j.0 k.0)
 
-pub dw-ask-settled : Settles {A = ℕ × ℕ × ℕ × ℕ} dw-ask.ended dw-ask-reads.Learnt
-    (λ κs r x. (r, x.1.1.0.now, x.1.1.1.0.now, x.1.1.1.1.0.now))
-dw-ask-settled κs a r s x y j k = ap (λ (p : ℕ × Told). (p.0, p.1.edition, p.1.high, p.1.low)) (number-both j.0 k.0)
+pub dw-ask-settled : Settles {A = ℕ × ℕ × ℕ} dw-ask.ended dw-ask-reads.Learnt (λ κs r x. (r, x.1.1.0.now, x.1.1.1.0.now))
+dw-ask-settled κs a r s x y j k = ap (λ (p : ℕ × Told). (p.0, p.1.edition, p.1.count)) (number-both j.0 k.0)
 
 pub dw-tree-settled : Settles {A = ℕ × List ℕ} dw-tree.ended dw-tree-reads.Learnt (λ κs r x. (r, x.1.0.now))
 dw-tree-settled κs a r s x y = number-both

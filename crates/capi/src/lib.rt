@@ -88,23 +88,16 @@ pub extern "C" fn dw_drop(table: &mut [u64], bay: u64) -> u64
     answers::number(calls::drop(table, bay))
 }
 
-// Edition and length, its high word and its low one, are always written: zeros where the call is refused or nothing is in the bay.
+// Edition and count are always written: 0 and 0 where the call is refused or nothing is in the bay.
 #[unsafe(no_mangle)]
-pub extern "C" fn dw_ask(
-    table: &[u64],
-    bay: u64,
-    edition: &mut u64,
-    high: &mut u64,
-    low: &mut u64,
-) -> u64
-    ensures asks { Asks table.now bay result (told edition.new high.new low.new) }
+pub extern "C" fn dw_ask(table: &[u64], bay: u64, edition: &mut u64, count: &mut u64) -> u64
+    ensures asks { Asks table.now bay result (told edition.new count.new) }
     ensures lends { Lends table.now (Call.asking bay) }
 {
     let asked = calls::ask(table, bay);
     let answer = asked.answer;
     *edition = asked.edition;
-    *high = asked.high;
-    *low = asked.low;
+    *count = asked.count;
     answers::number(answer)
 }
 

@@ -93,8 +93,8 @@ c-some t (loading i bytes) l =
 c-some t (asking i) l =
     let c = asking i in
     some Did (ask-did
-    (call ([], ([], ([], ([], tt)))) (slice t, (i, (word 0, (word 0, (word 0, tt))))) (number_of (answered t c))
-    (tt, (tt, ((says t c).edition, ((says t c).high, ((says t c).low, tt))))) (asked t i, l)))
+    (call ([], ([], ([], tt))) (slice t, (i, (word 0, (word 0, tt)))) (number_of (answered t c))
+    (tt, (tt, ((says t c).edition, ((says t c).count, tt)))) (asked t i, l)))
 c-some t (dropping i) l =
     let c = dropping i in
     some Did (drop-did (call ([], tt) (slice t, (i, tt)) (number_of (answered t c)) ((left t c).table, (tt, tt)) (alone t c refl refl, l)))

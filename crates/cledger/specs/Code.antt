@@ -38,6 +38,6 @@ pub data Did : List ℕ → Call → Seen → List ℕ → Type 0 where
       Did m.args.0.now (loading m.args.1.0 m.args.1.1.0.now) (shows m.result []) (exit m).0.now
   ask-did : (m : Made ask.ended ask-reads.Learnt) →
       Did m.args.0.now (asking m.args.1.0)
-      (shows_told m.result (told (exit m).1.1.0.now (exit m).1.1.1.0.now (exit m).1.1.1.1.0.now)) (exit m).0.now
+      (shows_told m.result (told (exit m).1.1.0.now (exit m).1.1.1.0.now)) (exit m).0.now
   drop-did : (m : Made drop.ended drop-reads.Learnt) →
       Did m.args.0.now (dropping m.args.1.0) (shows m.result []) (exit m).0.now

@@ -1,7 +1,10 @@
 -- Absorbing at an edition's number: laws of `absorbed`, which the layers above cite.
 -- Eight words, `length-absorbed`, of the width, `absorbed-below`; less than a block changes nothing, `absorbed-none`; whole blocks may be
 -- taken in any pieces, `absorbed-append`, and a rest is not looked at, `absorbed-rest`. It is the block rule: `absorbed-chain`.
-use Rattle.std.proofs.Common.{◌≡◌, ℕ, ◌*◌, ◌^◌, ◌<◌, List, ◌++◌, length, sym, ap, ◌∙◌}
+use Prim.Native.Nat.{ℕ, ◌*◌, ◌^◌, ◌<◌}
+use mathlib.Core.List.{List, ◌++◌}
+use mathlib.Core.Path.{◌≡◌, sym, ap, ◌∙◌}
+use lib.ListN.{length}
 use Rattle.slices.specs.Below.{Below}
 use Rattle.fips.specs.Words.{Width, word, block_bytes}
 use Rattle.fips.specs.Constants.{chain, round_words}

@@ -1,7 +1,14 @@
 -- Hash at once: what its tests tell, and that finishing the whole message from the starting words gives the standard's digest.
 -- Main: `digest-at-once`.
-use Rattle.std.proofs.Common.{◌≡◌, ℕ, ◌+◌, ◌-◌, ◌*◌, ◌%◌, ◌^◌, ◌<◌, ◌≤◌, true, eqb, leb, List, ◌∷◌, ◌++◌, length, take, replicate, sym, ap, ◌∙◌, ap₂, append_assoc, mod-eq_of_lt, arith, eq-eqb, eqb-true, le-leb, leb-true}
-use mathlib.Core.Bool.{and-eq-true_iff}
+use Prim.Native.Nat.{ℕ, ◌+◌, ◌-◌, ◌*◌, ◌%◌, ◌^◌, ◌≤◌, ◌<◌}
+use mathlib.Core.Bool.{true, and-eq-true_iff}
+use mathlib.Core.List.{List, ◌∷◌, ◌++◌, append_assoc}
+use mathlib.Core.Path.{◌≡◌, sym, ap, ap₂, ◌∙◌}
+use native.Mathlib.Nat.{mod-eq_of_lt}
+use native.Mathlib.Omega.{arith}
+use lib.Dec.{leb, eqb}
+use lib.ListN.{length, take, replicate}
+use borrow.Author.Tests.{leb-true, eqb-true, le-leb, eq-eqb}
 use Rattle.bigendian.specs.BigEndian.{be}
 use Rattle.slices.specs.Below.{Bytes}
 use Rattle.bigendian.specs.Words.{from_words}

@@ -1,5 +1,9 @@
 -- The digest that the last words make, taken from a buffer of 64 bytes: laws of `digest_from`.
-use Rattle.std.proofs.Common.{◌≡◌, ℕ, ◌*◌, List, length, take, replicate, ap, ◌∙◌, arith, length-take}
+use Prim.Native.Nat.{ℕ, ◌*◌}
+use mathlib.Core.List.{List}
+use mathlib.Core.Path.{◌≡◌, ap, ◌∙◌}
+use native.Mathlib.Omega.{arith}
+use lib.ListN.{length, take, replicate, length-take}
 use lib.Seq.{take-append-le}
 use Rattle.bigendian.specs.Words.{from_words, with_words}
 use Rattle.bigendian.proofs.Words.{with_words-room, length-from_words}

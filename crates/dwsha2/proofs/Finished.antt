@@ -1,7 +1,13 @@
 -- A message is finished from its tail's whole blocks and its rest: laws of `absorbed` and `finished`. Main: `finished-after` and
 -- `finished-split`.
-use Rattle.std.proofs.Common.{◌≡◌, ℕ, ◌+◌, ◌-◌, ◌*◌, ◌/◌, ◌%◌, ◌<◌, Bool, List, ◌++◌, length, take, drop, sym, refl, ap, ◌∙◌, ap₂, append_assoc, mod-lt, div-add-mod', arith, length-append, length-drop, take-append-drop, length-take-le, take_all}
-use native.Mathlib.Nat.{mod-le}
+use Prim.Native.Nat.{ℕ, ◌+◌, ◌-◌, ◌*◌, ◌/◌, ◌%◌, ◌<◌}
+use mathlib.Core.Bool.{Bool}
+use mathlib.Core.List.{List, ◌++◌, append_assoc}
+use mathlib.Core.Path.{◌≡◌, refl, sym, ap, ap₂, ◌∙◌}
+use native.Mathlib.Nat.{div-add-mod', mod-lt, mod-le}
+use native.Mathlib.Omega.{arith}
+use lib.ListN.{length, take, drop, length-append, length-drop, take-append-drop}
+use lib.Seq.{length-take-le, take_all}
 use Rattle.fips.specs.Words.{Width, block_bytes}
 use Rattle.fips.specs.Padding.{zeros}
 use Rattle.fips.specs.Editions.{width}

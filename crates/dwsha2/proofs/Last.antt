@@ -1,8 +1,13 @@
 -- The last bytes of a message, as `finish` makes them: laws of `last_bytes`, and of the buffer of two blocks that holds them.
-use Rattle.std.proofs.Common.{◌≡◌, ℕ, suc, ◌+◌, ◌-◌, ◌*◌, ◌<◌, ◌≤◌, Bool, List, ◌∷◌, ◌++◌, length, take, drop, set, replicate, sym, refl, ap, ◌∙◌, ap₂, lt_of_not-le, arith, length-append, take_all, take_at}
+use Prim.Native.Nat.{ℕ, suc, ◌+◌, ◌-◌, ◌*◌, ◌≤◌, ◌<◌}
+use mathlib.Core.Bool.{Bool}
+use mathlib.Core.List.{List, ◌∷◌, ◌++◌}
+use mathlib.Core.Path.{◌≡◌, refl, sym, ap, ap₂, ◌∙◌}
 use native.Mathlib.Decide.{dec_le}
-use lib.ListN.{length-replicate}
-use lib.Seq.{take-append-add, set_at}
+use native.Mathlib.Nat.{lt_of_not-le}
+use native.Mathlib.Omega.{arith}
+use lib.ListN.{length, take, drop, set, replicate, length-append, length-replicate}
+use lib.Seq.{take_all, take-append-add, set_at, take_at}
 use Rattle.bigendian.specs.BigEndian.{be}
 use Rattle.bigendian.proofs.BigEndian.{length-be}
 use Rattle.fips.specs.Words.{Width, block_bytes}
@@ -13,7 +18,7 @@ use Rattle.slices.specs.AtFront.{at_front}
 use Rattle.fips.specs.Sizes.{width_of}
 use Rattle.dwsha2.specs.Code.Hashing.{last_bytes, last_length}
 use Rattle.slices.proofs.AtFront.{at_front-room, drop-copies, take-copies, at_front-all}
-use Rattle.dwsha2.proofs.LengthField.{be-low}
+use Rattle.dwsha2.proofs.Length.{be-low}
 use Rattle.fips.proofs.Sizes.{thin-bytes}
 
 -- ---- the buffer

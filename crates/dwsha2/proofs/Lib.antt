@@ -2,7 +2,7 @@
 pub mod Widths
 pub mod Absorbed
 pub mod Limits
-pub mod LengthField
+pub mod Length
 pub mod Digest
 pub mod AtOnce
 pub mod OneWay

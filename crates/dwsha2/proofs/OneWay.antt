@@ -1,7 +1,14 @@
 -- Every message of bits within the limit is passed in exactly one way that is refused neither with 7 nor with 8: `one_way`.
 -- What is not refused so is a message within the limit: `message-within`. Of hash at once: `passed-hashed` and `taken-passes`; of the
 -- function itself, by its own contract: `message-hashed` and `taken-within`.
-use Rattle.std.proofs.Common.{◌≡◌, ℕ, ◌/◌, ◌<◌, ◌≤◌, Bool, true, false, cond, not, ltb, List, length, sym, refl, ap, ◌∙◌, arith, le-ltb}
+use Prim.Native.Nat.{ℕ, ◌+◌, ◌*◌, ◌/◌, ◌≤◌, ◌<◌}
+use mathlib.Core.Bool.{Bool, true, false, not, cond}
+use mathlib.Core.List.{List}
+use mathlib.Core.Path.{◌≡◌, refl, sym, ap, ◌∙◌}
+use native.Mathlib.Omega.{arith}
+use lib.Dec.{ltb}
+use lib.ListN.{length}
+use borrow.Author.Tests.{le-ltb}
 use Rattle.contracts.specs.Says.{Made, exit}
 use Rattle.answers.specs.Judged.{first}
 use Rattle.answers.specs.Numbers.{number_of}
@@ -13,8 +20,8 @@ use Rattle.slices.specs.AtFront.{at_front}
 use Rattle.slices.specs.Below.{Bytes}
 use Rattle.dwsha2.specs.Closing.{closing_fits}
 use Rattle.dwsha2.specs.Hash.{Hashes, hash_tests, hashed}
-use Rattle.dwsha2.specs.Limit.{limit_of, too_long}
-use Rattle.dwsha2.proofs.Limits.{below-limit, limit-below, limit-eights}
+use Rattle.dwsha2.specs.Limit.{limit, too_long}
+use Rattle.dwsha2.proofs.Limits.{within-limit, limit-within}
 use Rattle.dwsha2.specs.Passing.{Way, meant, Within, Passes}
 use Rattle.dwsha2.proofs.AtOnce.{closing-few, closing-zeros, closing-fits}
 use Rattle.dwsha2.specs.contracts.hash.hash as hash
@@ -24,12 +31,10 @@ use Rattle.dwsha2.proofs.hash.hash.Reads as hash-reads
 abbrev pub way_of : List Bool → Way
 way_of m = record { bytes = bytes_in m; closing = closing_in m; bits = bits_behind m }
 
--- within the limit: fewer bits than the limit, closing bits counted
-pub within-bits : (e : ℕ) (m : List Bool) → (Within e m → length m < limit_of e) × (length m < limit_of e → Within e m)
-within-bits e m = (
-  λ h. omega (arith, limit-below e 0 (length m / 8) h, limit-eights e),
-  λ h. below-limit e 0 (length m / 8) (omega (arith, limit-eights e)),
-)
+-- within the limit: at most so many whole bytes, and seven bits
+pub within-bits : (e : ℕ) (m : List Bool) → (Within e m → length m ≤ 8 * limit + 7) × (length m ≤ 8 * limit + 7 → Within e m)
+within-bits e m =
+    (λ h. omega (arith, limit-within e 0 (length m / 8) h), λ h. within-limit e 0 (length m / 8) (omega arith))
 
 -- what is refused neither with 7 nor with 8 is a message within the limit
 pub message-within : (e : ℕ) (w : Way) → too_long e 0 (length w.bytes) ≡ false → closing_fits w.closing w.bits ≡ true →

@@ -1,8 +1,9 @@
 -- Settled: two outcomes that a public function's own contract allows coincide: what is answered, and all that was lent to be written.
 -- `Learnt` is that contract, made from src. SPEC, "How much each call says".
-use Rattle.std.proofs.Common.{ℕ, List}
+use Prim.Native.Nat.{ℕ}
+use mathlib.Core.List.{List}
 use Rattle.contracts.specs.Says.{Settles}
-use Rattle.contracts.proofs.Values.{value-settled, both-settled}
+use Rattle.contracts.proofs.Values.{value-settled}
 use Rattle.answers.specs.declared.Answer.{Answer}
 use Rattle.answers.proofs.Outcome.{answer-both}
 use Rattle.dwsha2.specs.contracts.hash.hash as hash
@@ -19,10 +20,6 @@ use Rattle.dwsha2.specs.contracts.closing.closing_byte as closing-byte
 use Rattle.dwsha2.proofs.closing.closing_byte.Reads as closing-byte-reads
 use Rattle.dwsha2.specs.contracts.closing.length_field as length-field
 use Rattle.dwsha2.proofs.closing.length_field.Reads as length-field-reads
-use Rattle.dwsha2.specs.contracts.length.of_bytes as of-bytes
-use Rattle.dwsha2.proofs.length.of_bytes.Reads as of-bytes-reads
-use Rattle.dwsha2.specs.contracts.length.longer as longer
-use Rattle.dwsha2.proofs.length.longer.Reads as longer-reads
 use Rattle.dwsha2.specs.contracts.limit.too_long as too_long
 use Rattle.dwsha2.proofs.limit.too_long.Reads as too-long-reads
 use Rattle.dwsha2.specs.contracts.starting.starting_words as starting-words
@@ -48,12 +45,6 @@ closing-byte-settled κs a r s x y = value-settled
 
 pub length-field-settled : Settles length-field.ended length-field-reads.Learnt (λ κs r x. r)
 length-field-settled κs a r s x y = value-settled
-
-pub of-bytes-settled : Settles {A = ℕ × ℕ} of-bytes.ended of-bytes-reads.Learnt (λ κs r x. (r.high, r.low))
-of-bytes-settled κs a r s x y p q = both-settled p q
-
-pub longer-settled : Settles {A = ℕ × ℕ} longer.ended longer-reads.Learnt (λ κs r x. (r.high, r.low))
-longer-settled κs a r s x y p q = both-settled p q
 
 pub too-long-settled : Settles too_long.ended too-long-reads.Learnt (λ κs r x. r)
 too-long-settled κs a r s x y = value-settled

@@ -1,6 +1,7 @@
 -- `hash-standard`: a hash at once that is answered Done leaves the standard's digest at the front of the output, and what was there behind
 -- it. It is said of calls of the function, by its own contract.
-use Rattle.std.proofs.Common.{◌≡◌, ◌<◌}
+use Prim.Native.Nat.{◌<◌}
+use mathlib.Core.Path.{◌≡◌}
 use Rattle.contracts.specs.Says.{Made, exit}
 use Rattle.answers.specs.Numbers.{number_of}
 use Rattle.answers.specs.declared.Answer.{Answer}

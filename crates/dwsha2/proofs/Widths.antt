@@ -1,6 +1,10 @@
 -- An edition's width, by whether its words have 32 bits; and words taken to a width: laws of `is_narrow`, `width_of` and `fit`.
-use Rattle.std.proofs.Common.{◌≡◌, ℕ, zero, suc, ◌%◌, ◌^◌, ◌<◌, List, [], ◌∷◌, ◌++◌, length, get_or, take, refl, ap₂, mod-lt, mod-eq_of_lt, pow_pos}
-use lib.ListN.{length-map}
+use Prim.Native.Nat.{ℕ, zero, suc, ◌%◌, ◌^◌, ◌<◌}
+use mathlib.Core.List.{List, [], ◌∷◌, ◌++◌}
+use mathlib.Core.Path.{◌≡◌, refl, ap₂}
+use native.Mathlib.Nat.{mod-eq_of_lt, mod-lt}
+use lib.ListN.{length, take, get_or, length-map}
+use lib.Pow.{pow_pos}
 use Rattle.slices.specs.Below.{Below}
 use Rattle.slices.proofs.Fill.{map_more}
 use Rattle.fips.specs.Words.{Width, word}

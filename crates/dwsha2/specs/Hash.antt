@@ -1,5 +1,5 @@
 -- Hash at once, its refusals in their order and what it leaves: SPEC, "Hash at once" and "Calls and their numbers".
-use Rattle.std.specs.Prelude.{ℕ, not, List, [], ◌∷◌, length, nat_lt}
+use Rattle.std.specs.Prelude.{ℕ, not, List, [], ◌∷◌, ltb, length}
 use Rattle.answers.specs.Judged.{Test, ◌when◌, Judged}
 use Rattle.fips.specs.Editions.{known, digest_bytes, digest}
 use Rattle.fips.specs.Message.{message}
@@ -13,7 +13,7 @@ hash_tests e bytes closing b out =
     5 when not (known e)
     ∷ 7 when too_long e 0 (length bytes)
     ∷ 8 when not (closing_fits closing b)
-    ∷ 9 when nat_lt (length out) (digest_bytes e)
+    ∷ 9 when ltb (length out) (digest_bytes e)
     ∷ []
 
 -- the digest of the bytes and the closing bits, at the front of the output

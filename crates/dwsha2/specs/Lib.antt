@@ -1,5 +1,4 @@
 -- Hash at once, and what the layers above ask of lengths and closing bits: read from the top.
-pub mod Length
 pub mod Limit
 pub mod Closing
 pub mod Passing

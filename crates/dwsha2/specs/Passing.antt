@@ -1,6 +1,6 @@
 -- How a message of bits is passed to a call: SPEC, "Padding" and "Hash at once". `Passes` is a way that is refused neither with 7 nor
 -- with 8, `Within` a message that has such a way.
-use Rattle.std.specs.Prelude.{◌≡◌, ℕ, ◌/◌, ◌<◌, Bool, true, false, List, length}
+use Rattle.std.specs.Prelude.{ℕ, ◌/◌, ◌<◌, Bool, true, false, List, ◌≡◌, length}
 use Rattle.fips.specs.Message.{message}
 use Rattle.slices.specs.Below.{Bytes}
 use Rattle.dwsha2.specs.Closing.{closing_fits}

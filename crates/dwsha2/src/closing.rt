@@ -3,7 +3,6 @@ ghost use Rattle.std.specs.Prelude.{◌≡◌, ◌+◌, ◌*◌, ◌%◌, ◌^�
 ghost use Rattle.bigendian.specs.BigEndian.{be};
 ghost use Rattle.fips.specs.Code.ByteForm.{closing_byte};
 ghost use Rattle.dwsha2.specs.Closing.{closing_fits};
-ghost use Rattle.dwsha2.specs.Length.{whole_bytes};
 
 // 2^k for a k of at most 8.
 fn power(k: u64) -> u64
@@ -33,11 +32,14 @@ pub fn closing_byte(closing: u8, bits: u64) -> u8
     ((closing as u64) / unit * unit + one) as u8
 }
 
-// The length in bits as it is hashed, in two words of 64 bits: the whole bytes of a length, and the closing bits.
-pub fn length_field(high: u64, low: u64, bits: u64) -> [u8; 16]
-    ensures { result ≡ be 16 (8 * whole_bytes high low + bits % 8) }
+// The length in bits as two words of 64 bits: that of a count of bytes and of closing bits.
+pub fn length_field(count: u64, bits: u64) -> [u8; 16]
+    ensures { result ≡ be 16 (8 * count + bits % 8) }
 {
-    let words = [high, low / 8 * 8 + bits % 8];
+    let words = [
+        count / 0x2000_0000_0000_0000,
+        count % 0x2000_0000_0000_0000 * 8 + bits % 8,
+    ];
     let mut field = [0u8; 16];
     bigendian::put_words(&mut field, &words, 8);
     field

@@ -1,9 +1,8 @@
 // Finishing a message: its tail, the closing byte, zero bytes and the length, in one last block or two.
-ghost use Rattle.std.specs.Prelude.{◌≡◌, ◌-◌, ◌%◌, ◌<◌, ◌∷◌, ◌++◌, length, take, replicate};
+ghost use Rattle.std.specs.Prelude.{◌≡◌, ◌∷◌, ◌++◌, ◌-◌, ◌%◌, ◌<◌, length, take, replicate};
 ghost use Rattle.fips.specs.Words.{block_bytes};
 ghost use Rattle.fips.specs.Code.ByteForm.{closing_byte};
 ghost use Rattle.fips.specs.Sizes.{width_of};
-ghost use Rattle.dwsha2.specs.Length.{whole_bytes};
 ghost use Rattle.dwsha2.specs.Code.Hashing.{last_length, last_bytes, finished};
 
 use crate::closing::{closing_byte, length_field};
@@ -35,37 +34,36 @@ fn with_closing(tail: &[u8], closing: u8, bits: u64) -> [u8; 256]
 }
 
 // The same with the length at the end, of which 32-bit editions take the lower word.
-fn last_bytes(thin: bool, high: u64, low: u64, tail: &[u8], closing: u8, bits: u64) -> [u8; 256]
+fn last_bytes(thin: bool, count: u64, tail: &[u8], closing: u8, bits: u64) -> [u8; 256]
     requires { length tail.now < block_bytes (width_of thin) }
     ensures { take (last_length (width_of thin) (length tail.now)) result
-        ≡ last_bytes (width_of thin) (whole_bytes high low) tail.now closing (bits % 8) }
+        ≡ last_bytes (width_of thin) count tail.now closing (bits % 8) }
 {
     let end = last_end(thin, tail.len());
     let size = block_size(thin) / 8;
     let start = end - size;
     let skip = 16 - size;
     let mut buffer = with_closing(tail, closing, bits);
-    let field = length_field(high, low, bits);
+    let field = length_field(count, bits);
     put_front(&mut buffer[start..end], &field[skip..]);
     buffer
 }
 
-// The last words of a message whose length is so many bits in two words, of which the tail is left and a closing byte follows.
+// The last words of a message of which `count` bytes came in all, the tail is left and a closing byte follows.
 pub fn finish(
     edition: u64,
     words: [u64; 8],
-    high: u64,
-    low: u64,
+    count: u64,
     tail: &[u8],
     closing: u8,
     bits: u64,
 ) -> [u64; 8]
-    ensures { result ≡ finished edition words (whole_bytes high low) tail.now closing bits }
+    ensures { result ≡ finished edition words count tail.now closing bits }
 {
     let thin = narrow(edition);
     let rest = tail.len() % block_size(thin);
     let whole = tail.len() - rest;
-    let last = last_bytes(thin, high, low, &tail[whole..], closing, bits);
+    let last = last_bytes(thin, count, &tail[whole..], closing, bits);
     let h = absorb(edition, words, tail);
     let end = last_end(thin, rest);
     absorb(edition, h, &last[..end])

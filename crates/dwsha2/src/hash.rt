@@ -5,7 +5,6 @@ ghost use Rattle.dwsha2.specs.Hash.{Hashes};
 use crate::closing::closing_fits;
 use crate::finish::finish;
 use crate::hashing::write_digest;
-use crate::length::of_bytes;
 use crate::limit::too_long;
 use crate::starting::starting_words;
 use answers::Answer;
@@ -18,7 +17,7 @@ pub fn hash(edition: u64, message: &[u8], closing: u8, bits: u64, out: &mut [u8]
     if size == 0 {
         return Answer::NoSuchEdition;
     }
-    if too_long(edition, 0, 0, message.len()) {
+    if too_long(edition, 0, message.len()) {
         return Answer::TooLong;
     }
     if !closing_fits(closing, bits) {
@@ -28,16 +27,7 @@ pub fn hash(edition: u64, message: &[u8], closing: u8, bits: u64, out: &mut [u8]
         return Answer::ShortOutput;
     }
     let start = starting_words(edition);
-    let length = of_bytes(message.len() as u64);
-    let words = finish(
-        edition,
-        start,
-        length.high,
-        length.low,
-        message,
-        closing,
-        bits,
-    );
+    let words = finish(edition, start, message.len() as u64, message, closing, bits);
     write_digest(edition, words, out);
     Answer::Done
 }

@@ -1,7 +1,7 @@
 -- What `sound` asks, rule by rule: `sound-rules`, a half-read message is sound exactly where it keeps the five rules of SPEC,
 -- "The table of bays". They are asked of numbers, so that it does not matter where those are read: `keeps-alike`.
-use Prim.Native.Nat.{ℕ, ◌+◌, ◌-◌, ◌%◌, ◌^◌, ◌<◌}
-use mathlib.Core.Bool.{true, false}
+use Prim.Native.Nat.{ℕ, ◌+◌, ◌-◌, ◌^◌, ◌<◌}
+use mathlib.Core.Bool.{true}
 use mathlib.Core.Path.{◌≡◌, sym, ap, subst, ◌∙◌}
 use native.Mathlib.Decide.{dec_lt}
 use native.Mathlib.Omega.{arith}
@@ -15,21 +15,19 @@ use Rattle.slices.proofs.Tests.{at_every, below-all_below}
 use Rattle.fips.specs.Words.{word}
 use Rattle.fips.specs.Editions.{width, start}
 use Rattle.fips.proofs.Rules.{length-start}
-use Rattle.dwsha2.specs.Limit.{limit_of, too_long}
-use Rattle.dwsha2.proofs.Limits.{below-limit, limit-below}
 use Rattle.halfread.specs.declared.HalfRead.{HalfRead}
-use Rattle.halfread.specs.State.{chain_room, tail_room, length_of, count, tail_length, sound}
+use Rattle.halfread.specs.State.{chain_room, tail_room, tail_length, sound}
 use Rattle.halfread.specs.FiveRules.{FiveRules, Keeps}
 use Rattle.halfread.proofs.Soundness.{facts-of, zeros-behind, kept-sound}
 
 -- the same numbers keep the same rules
-pub keeps-alike : {e l e' l' : ℕ} {chain tail chain' tail' : ℕ → ℕ} → e ≡ e' → l ≡ l' →
+pub keeps-alike : {e c e' c' : ℕ} {chain tail chain' tail' : ℕ → ℕ} → e ≡ e' → c ≡ c' →
     ((j : ℕ) → j < chain_room → chain j ≡ chain' j) →
     ((k : ℕ) → k < tail_room → tail k ≡ tail' k) →
-    FiveRules e l chain tail → FiveRules e' l' chain' tail'
-keeps-alike {e} {l} {e'} {l'} {chain} {tail} {chain'} {tail'} is_e is_l words bytes r =
-    subst (λ (n : ℕ). FiveRules n l' chain' tail') is_e
-    (subst (λ (n : ℕ). FiveRules e n chain' tail') is_l
+    FiveRules e c chain tail → FiveRules e' c' chain' tail'
+keeps-alike {e} {c} {e'} {c'} {chain} {tail} {chain'} {tail'} is_e is_c words bytes r =
+    subst (λ (n : ℕ). FiveRules n c' chain' tail') is_e
+    (subst (λ (n : ℕ). FiveRules e n chain' tail') is_c
     (record {
       edition = r.edition;
       length = r.length;
@@ -38,13 +36,6 @@ keeps-alike {e} {l} {e'} {l'} {chain} {tail} {chain'} {tail'} is_e is_l words by
       start = λ p j h. sym (words j h) ∙ r.start p j h;
     }))
 
--- a length of whole bytes is below the limit where its bytes are not too long
-whole_below : (h : HalfRead) → too_long h.edition (count h) 0 ≡ false → length_of h % 8 ≡ 0 → length_of h < limit_of h.edition
-whole_below h short eights = omega (arith, limit-below h.edition (count h) 0 short)
-
-below-whole : (h : HalfRead) → length_of h < limit_of h.edition → too_long h.edition (count h) 0 ≡ false
-below-whole h below = below-limit h.edition (count h) 0 (omega arith)
-
 module _ (h : HalfRead) (eight : length h.words ≡ chain_room) (wide : length h.tail ≡ tail_room) where
   sound-keeps : sound h ≡ true → Keeps h
   sound-keeps is_sound =
@@ -52,7 +43,7 @@ module _ (h : HalfRead) (eight : length h.words ≡ chain_room) (wide : length h
       let n = tail_length h in
       record {
         edition = facts.known;
-        length = (whole_below h facts.limited facts.eights, facts.eights);
+        length = facts.limited;
         words = λ j p. facts.below j;
         tail = λ k p q.
             let at : n + (k - n) ≡ k = omega arith in
@@ -77,7 +68,7 @@ module _ (h : HalfRead) (eight : length h.words ≡ chain_room) (wide : length h
       kept-sound h
       (record {
         known = r.edition;
-        short = rw (below-whole h r.length.0, eq-eqb (length_of h % 8) 0 r.length.1);
+        short = rw r.length;
         below = below-all_below (2 ^ word (width h.edition)) h.words (below_all r);
         zero =
             at_every (λ x. eqb x 0) 0 (drop n h.tail)

@@ -1,6 +1,6 @@
 -- A message of bytes that was opened, added to and closed has the standard's digest: `closed-digest`. A whole block added to nothing
 -- leaves no tail: `given-block`.
-use Prim.Native.Nat.{ℕ, ◌+◌, ◌*◌, ◌/◌, ◌<◌}
+use Prim.Native.Nat.{ℕ, ◌*◌, ◌/◌, ◌<◌}
 use mathlib.Core.List.{List, [], ◌++◌, append-nil}
 use mathlib.Core.Path.{◌≡◌, refl, sym, ap, ap₂, ◌∙◌}
 use native.Mathlib.Nat.{zero-mod, mod-lt}
@@ -13,15 +13,14 @@ use Rattle.slices.proofs.Blocks.{length_rest, length_whole, rest-small, rest-app
 use Rattle.fips.specs.Words.{block_bytes}
 use Rattle.fips.specs.Editions.{width, start, digest}
 use Rattle.fips.specs.Message.{message}
-use Rattle.fips.proofs.Sizes.{block-some, block_within}
-use Rattle.dwsha2.specs.Length.{high_of, low_of}
+use Rattle.fips.proofs.Sizes.{block-some}
 use Rattle.dwsha2.specs.Code.Hashing.{absorbed, finished, digest_from}
 use Rattle.dwsha2.proofs.Absorbed.{absorbed-rest}
 use Rattle.dwsha2.proofs.AtOnce.{digest-at-once}
 use Rattle.dwsha2.proofs.Finished.{finished-after}
-use Rattle.halfread.specs.State.{count, pending, padded, tail_room}
+use Rattle.halfread.specs.State.{pending, padded, tail_room}
 use Rattle.halfread.specs.Steps.{opened, waiting, added, closed_digest}
-use Rattle.halfread.proofs.Adding.{count-added, pending-added}
+use Rattle.halfread.proofs.Adding.{pending-added}
 use Rattle.halfread.proofs.Fields.{same-state}
 
 module _ (e : ℕ) where
@@ -34,18 +33,14 @@ module _ (e : ℕ) where
   first-waiting m = ap (λ (n : ℕ). take n (replicate tail_room 0) ++ m) (zero-mod B)
 
   pub given-block : (block : List ℕ) → length block ≡ B →
-      added (opened e) block
-      ≡ record { edition = e; high = 0; low = 8 * B; words = absorbed e (start e) block; tail = replicate tail_room 0 }
+      added (opened e) block ≡ record { edition = e; count = B; words = absorbed e (start e) block; tail = replicate tail_room 0 }
   unfolding added opened at_front
   given-block block long =
       let none : rest B (waiting (opened e) block) ≡ [] =
       ap (rest B) (first-waiting block ∙ sym (append-nil block))
       ∙ rest-append B 1 block [] (block-some e) (omega arith)
       ∙ rest-small B [] (block-some e) in
-      let size : 0 + length block ≡ B = omega arith in
-      let few = block_within e in
-      same-state _ _ refl (ap high_of size ∙ omega arith) (ap low_of size ∙ omega arith)
-      (ap (absorbed e (start e)) (first-waiting block)) (ap padded none)
+      same-state _ _ refl (omega arith) (ap (absorbed e (start e)) (first-waiting block)) (ap padded none)
 
   -- the whole blocks are absorbed, and the last bytes are those of the rest
   closed-words : (m : List ℕ) (x b : ℕ) →
@@ -68,9 +63,9 @@ module _ (e : ℕ) where
   closed-digest m x b all small few =
       let is = first-waiting m in
       let h = added (opened e) m in
-      let bytes : count h ≡ length m = count-added (opened e) m ∙ omega arith in
+      let count : h.count ≡ length m = omega arith in
       ap (digest_from e)
-      (ap (λ (c : ℕ). finished e h.words c (pending h) x b) bytes
+      (ap (λ (c : ℕ). finished e h.words c (pending h) x b) count
       ∙ ap₂ (λ (H t : List ℕ). finished e H (length m) t x b) (ap (absorbed e (start e)) is)
       (pending-added (opened e) refl m ∙ ap (rest B) is)
       ∙ closed-words m x b)

@@ -2,6 +2,5 @@
 use mathlib.Core.Path.{◌≡◌}
 use Rattle.halfread.specs.declared.HalfRead.{HalfRead}
 
-pub same-state : (a b : HalfRead) → a.edition ≡ b.edition → a.high ≡ b.high → a.low ≡ b.low →
-    a.words ≡ b.words → a.tail ≡ b.tail → a ≡ b
-same-state a b e x y w t = λ i. record { edition = e i; high = x i; low = y i; words = w i; tail = t i }
+pub same-state : (a b : HalfRead) → a.edition ≡ b.edition → a.count ≡ b.count → a.words ≡ b.words → a.tail ≡ b.tail → a ≡ b
+same-state a b e c w t = λ i. record { edition = e i; count = c i; words = w i; tail = t i }

@@ -8,10 +8,9 @@ use native.Mathlib.Omega.{arith}
 use lib.ListN.{length, take, drop, replicate, length-append, take-append-drop}
 use lib.Seq.{length-take-le, take-append-add}
 use Rattle.slices.specs.AtFront.{at_front}
-use Rattle.dwsha2.specs.Length.{high_of, low_of}
 use Rattle.dwsha2.specs.Code.Hashing.{absorbed}
 use Rattle.halfread.specs.declared.HalfRead.{HalfRead}
-use Rattle.halfread.specs.State.{block_of, count, tail_length, pending, padded, sound, tail_room}
+use Rattle.halfread.specs.State.{block_of, tail_length, pending, padded, sound, tail_room}
 use Rattle.slices.specs.Blocks.{rest}
 use Rattle.halfread.specs.Steps.{waiting, added}
 use Rattle.dwsha2.proofs.Absorbed.{absorbed-none, absorbed-append}
@@ -37,31 +36,28 @@ module _ (h : HalfRead) (long : length h.tail ≡ tail_room) (ok : sound h ≡ t
       front-behind tail_room from h.tail piece mid (omega (arith, tail_within h)) long zeros is_mid
       ∙ ap (λ (n : ℕ). padded (take n h.tail ++ piece)) is_from
 
-  pub fills-short : {size from high low : ℕ} {tail : List ℕ} →
-      high ≡ high_of (count h + length piece) → low ≡ low_of (count h + length piece) →
-      size ≡ block_of h → from ≡ tail_length h → tail ≡ padded (waiting h piece) →
+  pub fills-short : {size from : ℕ} {tail : List ℕ} → size ≡ block_of h → from ≡ tail_length h → tail ≡ padded (waiting h piece) →
       length piece < lack size from →
-      record { edition = h.edition; high = high; low = low; words = h.words; tail = tail } ≡ added h piece
+      record { edition = h.edition; count = h.count + length piece; words = h.words; tail = tail } ≡ added h piece
   unfolding added
-  fills-short {size} {from} {high} {low} {tail} is_high is_low is_size is_from is_tail short =
+  fills-short {size} {from} {tail} is_size is_from is_tail short =
       let short' : length piece < lack (block_of h) (tail_length h) = rw (is_size, is_from) at short in
       let small : length (waiting h piece) < block_of h =
       rw (length-waiting h long piece) (lack-short (block_of h) (tail_length h) (length piece) (tail-lt h) short') in
       let f = facts-of h ok long in
-      same-state (record { edition = h.edition; high = high; low = low; words = h.words; tail = tail }) (added h piece) refl is_high is_low
+      same-state (record { edition = h.edition; count = h.count + length piece; words = h.words; tail = tail }) (added h piece) refl refl
       (sym (absorbed-none h.edition h.words (waiting h piece) f.below small))
       (is_tail ∙ ap padded (sym (rest-small (block_of h) (waiting h piece) small)))
 
-  pub fills-long : {size from high low : ℕ} {tail last g v : List ℕ} →
-      high ≡ high_of (count h + length piece) → low ≡ low_of (count h + length piece) →
+  pub fills-long : {size from : ℕ} {tail last g v : List ℕ} →
       size ≡ block_of h → from ≡ tail_length h → tail ≡ padded (waiting h piece) →
       lack size from ≤ length piece →
       g ≡ absorbed h.edition h.words (take (from + lack size from) tail) →
       v ≡ absorbed h.edition g (part_to (lack size from) piece) →
       {cut : ℕ} → cut ≡ length (part_to (lack size from) piece) / size * size → last ≡ padded (part_to cut (part_to (lack size from) piece)) →
-      record { edition = h.edition; high = high; low = low; words = v; tail = last } ≡ added h piece
+      record { edition = h.edition; count = h.count + length piece; words = v; tail = last } ≡ added h piece
   unfolding added
-  fills-long {size} {from} {high} {low} {tail} {last} {g} {v} is_high is_low is_size is_from is_tail enough is_g is_v {cut} is_cut is_last =
+  fills-long {size} {from} {tail} {last} {g} {v} is_size is_from is_tail enough is_g is_v {cut} is_cut is_last =
       let e = h.edition in
       let b = block_of h in
       let n = tail_length h in
@@ -85,7 +81,7 @@ module _ (h : HalfRead) (long : length h.tail ≡ tail_room) (ok : sound h ≡ t
       let back : part_to cut (part_to (lack size from) piece) ≡ rest b R =
       part-all cut (part_to (lack size from) piece)
       ∙ ap₂ (λ (k : ℕ) (l : List ℕ). drop k l) (is_cut ∙ ap₂ (λ (l : List ℕ) (k : ℕ). length l / k * k) after is_size) after in
-      same-state (record { edition = h.edition; high = high; low = low; words = v; tail = last }) (added h piece) refl is_high is_low
+      same-state (record { edition = h.edition; count = h.count + length piece; words = v; tail = last }) (added h piece) refl refl
       (is_v
       ∙ ap₂ (absorbed e) (is_g ∙ ap (absorbed e h.words) front) after
       ∙ sym (absorbed-append e h.words w.0 A R la)

@@ -25,8 +25,7 @@ opened-shaped e h =
       eight = length-start e;
       wide = refl;
       number = h;
-      upper = omega arith;
-      lower = omega arith;
+      counted = omega arith;
       fitting = below_more (start e) (pow_mono {j = 64} (omega (arith, bytes-within e))) (start-lt e);
       bytes = below-replicate tail_room (lit< tt);
     }
@@ -38,7 +37,6 @@ opened-sound e p =
     (record {
       known = p;
       limited = no_length e;
-      eights = refl;
       below = start-lt e;
       tail = sym (ap (λ (n : ℕ). padded (take n (replicate tail_room 0))) (zero-mod (block_of (opened e))));
       begun = λ q. refl;

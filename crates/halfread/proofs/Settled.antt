@@ -13,8 +13,6 @@ use Rattle.halfread.specs.contracts.state.«open» as opn
 use Rattle.halfread.proofs.state.«open».Reads as open-reads
 use Rattle.halfread.specs.contracts.state.blank as blank
 use Rattle.halfread.proofs.state.blank.Reads as blank-reads
-use Rattle.halfread.specs.contracts.sound.a_block_or_more as a-block-or-more
-use Rattle.halfread.proofs.sound.a_block_or_more.Reads as a-block-or-more-reads
 use Rattle.halfread.specs.contracts.sound.below_width as below-width
 use Rattle.halfread.proofs.sound.below_width.Reads as below-width-reads
 use Rattle.halfread.specs.contracts.sound.is_sound as is-sound
@@ -40,9 +38,6 @@ blank-settled κs a r s x y = value-settled
 
 pub below-width-settled : Settles below-width.ended below-width-reads.Learnt (λ κs r x. r)
 below-width-settled κs a r s x y = value-settled
-
-pub a-block-or-more-settled : Settles a-block-or-more.ended a-block-or-more-reads.Learnt (λ κs r x. r)
-a-block-or-more-settled κs a r s x y = value-settled
 
 pub is-sound-settled : Settles is-sound.ended is-sound-reads.Learnt (λ κs r x. r)
 is-sound-settled κs a r s x y = value-settled

@@ -1,23 +1,22 @@
 -- A sound half-read message: SPEC, "The table of bays". What `sound` tells, as facts, and the way back.
 -- Main statements: `sound-facts` and `facts-sound`.
-use Prim.Native.Nat.{ℕ, ◌-◌, ◌%◌, ◌^◌, ◌≤◌, ◌<◌}
-use mathlib.Core.Bool.{Bool, true, false, not, ◌||◌, and-eq-true_iff}
+use Prim.Native.Nat.{ℕ, ◌-◌, ◌^◌, ◌≤◌, ◌<◌}
+use mathlib.Core.Bool.{Bool, true, false, ◌||◌}
 use mathlib.Core.List.{List, ◌++◌}
 use mathlib.Core.Path.{◌≡◌, refl, sym, ap, ◌∙◌}
 use native.Mathlib.Decide.{dec_le}
 use native.Mathlib.Nat.{lt_of_not-le}
 use native.Mathlib.Omega.{arith}
-use lib.Dec.{eqb}
 use lib.ListN.{length, drop, replicate, length-drop, take-append-drop}
 use lib.Pow.{pow_pos}
-use borrow.Author.Tests.{lt-leb, not-true, eqb-true, eq-eqb}
+use borrow.Author.Tests.{lt-leb, not-true}
 use Rattle.slices.specs.Below.{Below}
 use Rattle.fips.specs.Words.{word}
 use Rattle.fips.specs.Editions.{known, width, start}
 use Rattle.dwsha2.specs.Limit.{too_long}
 use Rattle.halfread.specs.declared.HalfRead.{HalfRead}
 use Rattle.slices.specs.Tests.{all_zero}
-use Rattle.halfread.specs.State.{block_of, length_of, count, tail_length, pending, padded, rules, sound, Shaped, tail_room}
+use Rattle.halfread.specs.State.{block_of, tail_length, pending, padded, rules, sound, Shaped, tail_room}
 use Rattle.slices.proofs.Tests.{holds_at, all_below-below, below-all_below, all_zero-zeros, zeros-all_zero, same-eq, eq-same}
 use Rattle.halfread.proofs.Rules.{tail_within, Kept, past-rule, begun-rule}
 use Rattle.halfread.proofs.Tails.{length-pending, padded-room, drop-padded}
@@ -31,11 +30,10 @@ sound-kept h e =
 -- what a sound message has
 pub record Sound (h : HalfRead) : Type 0 where
   pub known : known h.edition ≡ true
-  pub limited : too_long h.edition (count h) 0 ≡ false
-  pub eights : length_of h % 8 ≡ 0
+  pub limited : too_long h.edition h.count 0 ≡ false
   pub below : Below (2 ^ word (width h.edition)) h.words
   pub tail : h.tail ≡ padded (pending h)
-  pub begun : count h < block_of h → h.words ≡ start h.edition
+  pub begun : h.count < block_of h → h.words ≡ start h.edition
 
 -- the tail is its bytes and zeros
 pub zeros-behind : (h : HalfRead) → sound h ≡ true → length h.tail ≡ tail_room →
@@ -44,15 +42,8 @@ zeros-behind h e long =
     all_zero-zeros (drop (tail_length h) h.tail) (sound-kept h e).zero
     ∙ ap (λ (n : ℕ). replicate n 0) (length-drop (tail_length h) h.tail ∙ ap (λ (n : ℕ). n - tail_length h) long)
 
--- the rule of length tells two things
-sound-short : (h : HalfRead) → sound h ≡ true → (not (too_long h.edition (count h) 0) ≡ true) × (eqb (length_of h % 8) 0 ≡ true)
-sound-short h e = (and-eq-true_iff (not (too_long h.edition (count h) 0)) (eqb (length_of h % 8) 0)).0 (sound-kept h e).short
-
-pub sound-limited : (h : HalfRead) → sound h ≡ true → too_long h.edition (count h) 0 ≡ false
-sound-limited h e = not-true _ (sound-short h e).0
-
-pub sound-eights : (h : HalfRead) → sound h ≡ true → length_of h % 8 ≡ 0
-sound-eights h e = eqb-true (length_of h % 8) 0 (sound-short h e).1
+pub sound-limited : (h : HalfRead) → sound h ≡ true → too_long h.edition h.count 0 ≡ false
+sound-limited h e = not-true _ (sound-kept h e).short
 
 -- of the shape only the tail's length counts
 pub facts-of : (h : HalfRead) → sound h ≡ true → length h.tail ≡ tail_room → Sound h
@@ -62,14 +53,13 @@ facts-of h e long =
     record {
       known = k.known;
       limited = sound-limited h e;
-      eights = sound-eights h e;
       below = all_below-below (2 ^ word (width h.edition)) h.words (pow_pos (word (width h.edition))) k.below;
       tail =
           sym (take-append-drop (tail_length h) h.tail)
           ∙ ap (λ (l : List ℕ). pending h ++ l)
           (zeros-behind h e long ∙ ap (λ (n : ℕ). replicate (tail_room - n) 0) (sym (length-pending h long)))
           ∙ sym (padded-room (pending h) (omega (arith, length-pending h long, tail_within h)));
-      begun = λ p. same-eq h.words (start h.edition) (either (lt-leb (block_of h) (count h) p) (holds_at (rules h) e 4));
+      begun = λ p. same-eq h.words (start h.edition) (either (lt-leb (block_of h) h.count p) (holds_at (rules h) e 4));
     }
   where
     either : {a b : Bool} → a ≡ false → (a || b) ≡ true → b ≡ true
@@ -79,10 +69,10 @@ pub sound-facts : (h : HalfRead) → sound h ≡ true → Shaped h → Sound h
 sound-facts h e s = facts-of h e s.wide
 
 -- the rules but the last, and that one as a fact
-pub kept-sound : (h : HalfRead) → Kept h → (count h < block_of h → h.words ≡ start h.edition) → sound h ≡ true
-kept-sound h kept begun = go (dec_le (block_of h) (count h))
+pub kept-sound : (h : HalfRead) → Kept h → (h.count < block_of h → h.words ≡ start h.edition) → sound h ≡ true
+kept-sound h kept begun = go (dec_le (block_of h) h.count)
   where
-    go : Dec (block_of h ≤ count h) → sound h ≡ true
+    go : Dec (block_of h ≤ h.count) → sound h ≡ true
     go (yes p) = sym (past-rule h kept p)
     go (no p) = sym (begun-rule h kept (lt_of_not-le p) refl (sym (eq-same h.words (start h.edition) (begun (lt_of_not-le p)))))
 
@@ -99,7 +89,7 @@ facts-sound h s f = kept-sound h kept f.begun
     kept =
         record {
           known = f.known;
-          short = rw (f.limited, eq-eqb (length_of h % 8) 0 f.eights);
+          short = rw f.limited;
           below = below-all_below (2 ^ word (width h.edition)) h.words f.below;
           zero = zero;
         }

@@ -1,10 +1,9 @@
 -- A half-read message and when it is sound: SPEC, "The table of bays".
-use Rattle.std.specs.Prelude.{ℕ, ◌%◌, ◌^◌, ◌<◌, Bool, not, ◌&&◌, ◌||◌, List, [], ◌∷◌, ◌≡◌, leb, eqb, length, take, drop, replicate}
+use Rattle.std.specs.Prelude.{ℕ, ◌%◌, ◌^◌, ◌<◌, Bool, not, ◌||◌, List, [], ◌∷◌, ◌≡◌, leb, length, take, drop, replicate}
 use Rattle.slices.specs.Below.{Below, Bytes}
 use Rattle.fips.specs.Words.{word, block_bytes}
 use Rattle.fips.specs.Editions.{known, width, start}
 use Rattle.slices.specs.Padded.{padded as padded_to}
-use Rattle.dwsha2.specs.Length.{joined, whole_bytes}
 use Rattle.dwsha2.specs.Limit.{too_long}
 use Rattle.halfread.specs.declared.HalfRead.{HalfRead}
 use Rattle.slices.specs.Tests.{holds, all_below, all_zero, same}
@@ -17,33 +16,25 @@ abbrev pub tail_room : ℕ
 tail_room = 128
 
 module _ (h : HalfRead) where
-  -- the bytes of a block
+  -- the bytes of a block, and how many bytes of the tail are taken
   abbrev pub block_of : ℕ
   block_of = block_bytes (width h.edition)
 
-  -- its length in bits, and the whole bytes of that: those taken
-  abbrev pub length_of : ℕ
-  length_of = joined h.high h.low
-
-  abbrev pub count : ℕ
-  count = whole_bytes h.high h.low
-
-  -- how many bytes of the tail are taken
   abbrev pub tail_length : ℕ
-  tail_length = count % block_of
+  tail_length = h.count % block_of
 
   -- the tail: the bytes after the last whole block
   abbrev pub pending : List ℕ
   pending = take tail_length h.tail
 
-  -- the five rules of a taken bay, in SPEC's order: edition, length (below the limit and a multiple of eight), words, tail, start
+  -- the five rules of a taken bay, in SPEC's order: edition, length, words, tail, start
   abbrev pub rules : List Bool
   rules =
       known h.edition
-      ∷ (not (too_long h.edition count 0) && eqb (length_of % 8) 0)
+      ∷ not (too_long h.edition h.count 0)
       ∷ all_below (2 ^ word (width h.edition)) h.words
       ∷ all_zero (drop tail_length h.tail)
-      ∷ (leb block_of count || same h.words (start h.edition))
+      ∷ (leb block_of h.count || same h.words (start h.edition))
       ∷ []
 
   unfoldable pub sound : Bool
@@ -51,7 +42,7 @@ module _ (h : HalfRead) where
 
 -- the state of an empty bay: all zeros
 unfoldable pub blank : HalfRead
-blank = record { edition = 0; high = 0; low = 0; words = replicate chain_room 0; tail = replicate tail_room 0 }
+blank = record { edition = 0; count = 0; words = replicate chain_room 0; tail = replicate tail_room 0 }
 
 -- the bytes of a tail with zeros behind them
 abbrev pub padded : List ℕ → List ℕ
@@ -62,7 +53,6 @@ pub record Shaped (h : HalfRead) : Type 0 where
   pub eight : length h.words ≡ chain_room
   pub wide : length h.tail ≡ tail_room
   pub number : h.edition < 2 ^ 64
-  pub upper : h.high < 2 ^ 64
-  pub lower : h.low < 2 ^ 64
+  pub counted : h.count < 2 ^ 64
   pub fitting : Below (2 ^ 64) h.words
   pub bytes : Bytes h.tail

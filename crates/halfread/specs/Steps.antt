@@ -3,23 +3,22 @@
 use Rattle.std.specs.Prelude.{ℕ, ◌+◌, not, List, [], ◌∷◌, ◌++◌, ltb, length, replicate}
 use Rattle.answers.specs.Judged.{Test, ◌when◌}
 use Rattle.fips.specs.Editions.{start, digest_bytes}
-use Rattle.dwsha2.specs.Length.{high_of, low_of}
 use Rattle.dwsha2.specs.Limit.{too_long}
 use Rattle.dwsha2.specs.Closing.{closing_fits}
 use Rattle.slices.specs.Blocks.{rest}
 use Rattle.dwsha2.specs.Code.Hashing.{absorbed, finished, digest_from}
 use Rattle.halfread.specs.declared.HalfRead.{HalfRead}
-use Rattle.halfread.specs.State.{block_of, count, pending, padded, sound, tail_room}
+use Rattle.halfread.specs.State.{block_of, pending, padded, sound, tail_room}
 
 -- a message of which nothing is taken
 unfoldable pub opened : ℕ → HalfRead
-opened e = record { edition = e; high = 0; low = 0; words = start e; tail = replicate tail_room 0 }
+opened e = record { edition = e; count = 0; words = start e; tail = replicate tail_room 0 }
 
 module _ (h : HalfRead) where
   -- ---- add: 6, 7
 
   unfoldable pub add_tests : List ℕ → List Test
-  add_tests piece = 6 when not (sound h) ∷ 7 when too_long h.edition (count h) (length piece) ∷ []
+  add_tests piece = 6 when not (sound h) ∷ 7 when too_long h.edition h.count (length piece) ∷ []
 
   -- the bytes not yet absorbed, once the piece has come
   abbrev pub waiting : List ℕ → List ℕ
@@ -30,8 +29,7 @@ module _ (h : HalfRead) where
   added piece =
       record {
         edition = h.edition;
-        high = high_of (count h + length piece);
-        low = low_of (count h + length piece);
+        count = h.count + length piece;
         words = absorbed h.edition h.words (waiting piece);
         tail = padded (rest (block_of h) (waiting piece));
       }
@@ -44,4 +42,4 @@ module _ (h : HalfRead) where
 
   -- the digest of all that was taken and of the upper b bits of the closing byte
   unfoldable pub closed_digest : ℕ → ℕ → List ℕ
-  closed_digest closing b = digest_from h.edition (finished h.edition h.words (count h) (pending h) closing b)
+  closed_digest closing b = digest_from h.edition (finished h.edition h.words h.count (pending h) closing b)

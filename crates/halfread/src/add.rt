@@ -3,7 +3,7 @@ ghost use Rattle.std.specs.Prelude.{true, false, ◌≡◌, length};
 ghost use Rattle.answers.specs.Judged.{Judged};
 ghost use Rattle.answers.specs.Numbers.{number_of};
 ghost use Rattle.dwsha2.specs.Limit.{too_long};
-ghost use Rattle.halfread.specs.State.{count, sound};
+ghost use Rattle.halfread.specs.State.{sound};
 ghost use Rattle.halfread.specs.Steps.{add_tests, added};
 
 use crate::HalfRead;
@@ -12,7 +12,6 @@ use crate::tail::{padded, tail_length};
 use answers::Answer;
 use fips::lookup::block_bytes;
 use dwsha2::hashing::absorb;
-use dwsha2::length::longer;
 use dwsha2::limit::too_long;
 use slices::front::put_front;
 
@@ -24,25 +23,22 @@ pub struct Added {
 
 // The begun block is filled from the front of the piece; what is left of the piece is absorbed where it lies, and its rest is the new tail.
 fn with_piece(half: HalfRead, piece: &[u8]) -> HalfRead
-    requires { (sound half ≡ true) × (too_long half.edition (count half) (length piece.now) ≡ false) }
+    requires { (sound half ≡ true) × (too_long half.edition half.count (length piece.now) ≡ false) }
     ensures { result ≡ added half piece.now }
 {
     let edition = half.edition;
-    let length = longer(half.high, half.low, piece.len());
-    let high = length.high;
-    let low = length.low;
+    let count = half.count + piece.len() as u64;
     let words = half.words;
     let mut tail = half.tail;
     let size = block_bytes(edition);
-    let from = tail_length(edition, half.low);
+    let from = tail_length(edition, half.count);
     // what the begun block lacks: nothing where none is begun
     let lead = (size - from) % size;
     put_front(&mut tail[from..], piece);
     if piece.len() < lead {
         return HalfRead {
             edition,
-            high,
-            low,
+            count,
             words,
             tail,
         };
@@ -55,8 +51,7 @@ fn with_piece(half: HalfRead, piece: &[u8]) -> HalfRead
     let tail = padded(&rest[whole..]);
     HalfRead {
         edition,
-        high,
-        low,
+        count,
         words,
         tail,
     }
@@ -71,7 +66,7 @@ pub fn add(half: HalfRead, piece: &[u8]) -> Added
             half,
         };
     }
-    if too_long(half.edition, half.high, half.low, piece.len()) {
+    if too_long(half.edition, half.count, piece.len()) {
         return Added {
             answer: Answer::TooLong,
             half,

@@ -24,17 +24,9 @@ pub fn close(half: HalfRead, closing: u8, bits: u64, out: &mut [u8]) -> Answer
         return Answer::ShortOutput;
     }
     let tail = half.tail;
-    let end = tail_length(edition, half.low);
+    let end = tail_length(edition, half.count);
     let words = half.words;
-    let last = dwsha2::finish::finish(
-        edition,
-        words,
-        half.high,
-        half.low,
-        &tail[..end],
-        closing,
-        bits,
-    );
+    let last = dwsha2::finish::finish(edition, words, half.count, &tail[..end], closing, bits);
     dwsha2::hashing::write_digest(edition, last, out);
     Answer::Done
 }

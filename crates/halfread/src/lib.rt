@@ -8,12 +8,11 @@ pub mod close; // close.rt: the digest
 // How many bytes a tail has room for: those of the longest block.
 pub const TAIL: usize = 128;
 
-// The edition, the length in bits in two words, the chaining words, and the bytes after the last whole block with zeros behind them.
+// The edition, the bytes taken, the chaining words, and the bytes after the last whole block with zeros behind them.
 #[derive(Drop)]
 pub struct HalfRead {
     pub edition: u64,
-    pub high: u64,
-    pub low: u64,
+    pub count: u64,
     pub words: [u64; 8],
     pub tail: [u8; TAIL],
 }

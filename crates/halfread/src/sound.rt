@@ -1,9 +1,8 @@
 // Whether a half-read message is sound: SPEC, "The table of bays". `is_sound` asks the rules in order.
-ghost use Rattle.std.specs.Prelude.{◌≡◌, ◌^◌, leb};
-ghost use Rattle.fips.specs.Words.{word, block_bytes};
-ghost use Rattle.fips.specs.Editions.{known, width};
+ghost use Rattle.std.specs.Prelude.{◌≡◌, ◌^◌};
+ghost use Rattle.fips.specs.Words.{word};
+ghost use Rattle.fips.specs.Editions.{known};
 ghost use Rattle.fips.specs.Sizes.{width_of};
-ghost use Rattle.dwsha2.specs.Length.{whole_bytes};
 ghost use Rattle.slices.specs.Tests.{all_below};
 ghost use Rattle.halfread.specs.State.{sound};
 
@@ -27,29 +26,15 @@ pub fn below_width(words: [u64; 8], thin: bool) -> bool
     true
 }
 
-// Whether a length is that of a block or more.
-pub fn a_block_or_more(edition: u64, high: u64, low: u64) -> bool
-    ensures { result ≡ leb (block_bytes (width edition)) (whole_bytes high low) }
-{
-    if 0 < high {
-        return true;
-    }
-    fips::lookup::block_bytes(edition) as u64 <= low / 8
-}
-
 pub fn is_sound(half: HalfRead) -> bool
     ensures { result ≡ sound half }
 {
     let edition = half.edition;
-    let high = half.high;
-    let low = half.low;
+    let count = half.count;
     if !fips::lookup::known(edition) {
         return false;
     }
-    if dwsha2::limit::too_long(edition, high, low, 0) {
-        return false;
-    }
-    if low % 8 != 0 {
+    if dwsha2::limit::too_long(edition, count, 0) {
         return false;
     }
     let words = half.words;
@@ -57,11 +42,12 @@ pub fn is_sound(half: HalfRead) -> bool
         return false;
     }
     let tail = half.tail;
-    let from = tail_length(edition, low);
+    let from = tail_length(edition, count);
     if !slices::zero::bytes_zero(&tail[from..]) {
         return false;
     }
-    if a_block_or_more(edition, high, low) {
+    let size = fips::lookup::block_bytes(edition) as u64;
+    if size <= count {
         return true;
     }
     let start = dwsha2::starting::starting_words(edition);

@@ -12,8 +12,7 @@ pub fn open(edition: u64) -> HalfRead
     let words = dwsha2::starting::starting_words(edition);
     HalfRead {
         edition,
-        high: 0,
-        low: 0,
+        count: 0,
         words,
         tail: [0; TAIL],
     }
@@ -25,8 +24,7 @@ pub fn blank() -> HalfRead
 {
     HalfRead {
         edition: 0,
-        high: 0,
-        low: 0,
+        count: 0,
         words: [0; 8],
         tail: [0; TAIL],
     }

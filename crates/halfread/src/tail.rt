@@ -1,17 +1,17 @@
 // How a tail lies: the bytes after the last whole block, with zeros behind them.
-ghost use Rattle.std.specs.Prelude.{◌≡◌, ◌/◌, ◌%◌};
+ghost use Rattle.std.specs.Prelude.{◌≡◌, ◌%◌};
 ghost use Rattle.fips.specs.Words.{block_bytes};
 ghost use Rattle.fips.specs.Editions.{width};
 ghost use Rattle.halfread.specs.State.{padded};
 
 use crate::TAIL;
 
-// How many bytes of the tail are taken where the length in bits has this low word: whole blocks fill what the high one counts.
-pub fn tail_length(edition: u64, low: u64) -> usize
-    ensures { result ≡ low / 8 % block_bytes (width edition) }
+// How many bytes of the tail are taken once so many bytes have come.
+pub fn tail_length(edition: u64, count: u64) -> usize
+    ensures { result ≡ count % block_bytes (width edition) }
 {
     let size = fips::lookup::block_bytes(edition) as u64;
-    (low / 8 % size) as usize
+    (count % size) as usize
 }
 
 // A tail: the bytes, as many as there is room for, and zeros behind them.

@@ -1,11 +1,10 @@
--- A keyed hash from its start on: `started-count`, `started-sound` and `started-shaped`; with pieces, `added-append`, `added_none`,
--- `added-sound` and `added-shaped`. A tag's length, `length-tag_of`, and where it stands in a buffer, `front-tag`. A block alone keeps the
--- limit: `block-short`.
-use Prim.Native.Nat.{ℕ, ◌+◌, ◌^◌, ◌≤◌, ◌<◌}
+-- A keyed hash from its start on: `started-sound` and `started-shaped`; with pieces, `added-append`, `added_none`, `added-sound` and
+-- `added-shaped`. A tag's length, `length-tag_of`, and where it stands in a buffer, `front-tag`. A block alone keeps the limit:
+-- `block-short`.
+use Prim.Native.Nat.{ℕ, ◌+◌, ◌^◌, ◌<◌}
 use mathlib.Core.Bool.{true, false}
 use mathlib.Core.List.{List, [], ◌++◌}
-use mathlib.Core.Path.{◌≡◌, refl, sym, ap, subst, ◌∙◌}
-use native.Mathlib.Nat.{le_of_eq}
+use mathlib.Core.Path.{◌≡◌, refl, sym, ap, ◌∙◌}
 use native.Mathlib.Omega.{arith}
 use lib.ListN.{length, take}
 use lib.Pow.{pow_mono}
@@ -23,7 +22,6 @@ use Rattle.dwsha2.proofs.Absorbed.{absorbed-below, length-absorbed}
 use Rattle.dwsha2.proofs.Digest.{length-digest_from}
 use Rattle.dwsha2.proofs.Finished.{finished-absorbed}
 use Rattle.dwsha2.proofs.Limits.{within-limit}
-use Rattle.halfread.specs.State.{count}
 use Rattle.halfread.specs.Steps.{opened, waiting, closed_digest}
 use Rattle.halfread.specs.Steps as half
 use Rattle.halfread.proofs.Adding as half-laws
@@ -50,11 +48,6 @@ module _ (e : ℕ) where
   pub block-short : too_long e 0 (B e) ≡ false
   block-short = within-limit e 0 (B e) (omega (arith, block_within e))
 
-  -- it has taken the inner block
-  pub started-count : (key : List ℕ) → count (started e key).inner ≡ B e
-  unfolding started opened
-  started-count key = half-laws.count-added (opened e) (inner_block e key) ∙ omega (arith, length-inner e key)
-
   module _ (key : List ℕ) (all : Bytes key) where
     -- the inner block is not too long
     inner-short : too_long e 0 (length (inner_block e key)) ≡ false
@@ -80,7 +73,7 @@ module _ (e : ℕ) where
           inner =
               half-laws.added-sound (opened e) (opened-shaped e (omega (arith, known_small e ok))) (inner_block e key)
               (bytes-inner e key all) (opened-sound e ok) inner-short;
-          block = le_of_eq (sym (started-count key));
+          block = omega (arith, length-inner e key);
           below = absorbed-below e (start e) (waiting (opened e) (outer_block e key));
         })
 
@@ -95,7 +88,7 @@ module _ (k : Keyed) (shape : Shaped k) where
   unfolding added
   added_none ok = same-keyed _ _ (half-laws.added_none k.inner shape.inner (sound-has k ok).inner) refl
 
-  module _ (a : List ℕ) (all : Bytes a) (room : too_long k.inner.edition (count k.inner) (length a) ≡ false) where
+  module _ (a : List ℕ) (all : Bytes a) (room : too_long k.inner.edition k.inner.count (length a) ≡ false) where
     pub added-shaped : Shaped (added k a)
     unfolding added
     added-shaped =
@@ -112,7 +105,7 @@ module _ (k : Keyed) (shape : Shaped k) where
         has-sound (added k a)
         (record {
           inner = half-laws.added-sound k.inner shape.inner a all f.inner room;
-          block = subst (λ (n : ℕ). B k.inner.edition ≤ n) (sym (half-laws.count-added k.inner a)) (omega (arith, f.block));
+          block = omega (arith, f.block);
           below = f.below;
         })
 

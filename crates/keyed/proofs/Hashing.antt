@@ -70,12 +70,12 @@ module _ (e : ℕ) where
         ∙ outer-digest (H e (inner_block e key ++ m)) (length-digest e bits) (bytes-digest e bits)
 
     -- the steps of a tag at once, put together
-    pub tag-at-once : (m : List ℕ) → Bytes m → {outer inner last : List ℕ} → outer ≡ absorbed e (start e) (outer_block e key) →
-        inner ≡ absorbed e (start e) (inner_block e key) → last ≡ finished e inner (B e + length m) m 0 0 →
+    pub tag-at-once : (m : List ℕ) → Bytes m → {outer inner last : List ℕ} {c : ℕ} → outer ≡ absorbed e (start e) (outer_block e key) →
+        inner ≡ absorbed e (start e) (inner_block e key) → c ≡ B e + length m → last ≡ finished e inner c m 0 0 →
         outer_digest e outer (digest_from e last) ≡ hmac e key m
-    tag-at-once m more is_outer is_inner is_last =
+    tag-at-once m more is_outer is_inner is_count is_last =
         let I = inner_block e key in
-        let words = is_last ∙ ap (λ (w : List ℕ). finished e w (B e + length m) m 0 0) is_inner in
+        let words = is_last ∙ ap₂ (λ (w : List ℕ) (n : ℕ). finished e w n m 0 0) is_inner is_count in
         ap₂ (outer_digest e) is_outer (ap (digest_from e) words)
         ∙ tag-from m (after_block I m (length-inner e key) (bytes-inner e key all) more)
 

@@ -1,7 +1,7 @@
 -- An add judged by the add of its inner message: `add-judged`. A tag at once: the edition and the lengths are asked first, `lengths-stop`
 -- and `lengths-passed`, and then the tag, `check-first`, or the output, `tag-first`.
 use Prim.Native.Nat.{ℕ, ◌<◌}
-use mathlib.Core.Bool.{Bool, true, false, cond, ◌||◌}
+use mathlib.Core.Bool.{Bool, true, false, cond, ◌||◌, true≢false}
 use mathlib.Core.List.{List, ◌++◌}
 use mathlib.Core.Path.{◌≡◌, sym, ◌∙◌}
 use native.Mathlib.Omega.{arith}
@@ -50,6 +50,13 @@ module _ (e k n : ℕ) where
   lengths-passed none =
       let at = passed (length_tests e k n) tt none in
       record { ok = not-false (known e) (at 0); short = at 1 }
+
+  pub message-short : first (length_tests e k n) ≡ 0 → too_long e (B e) n ≡ false
+  message-short none = second (too_long e 0 k) (lengths-passed none).short
+    where
+      second : (a : Bool) {b : Bool} → (a || b) ≡ false → b ≡ false
+      second true p = absurd (true≢false p)
+      second false p = p
 
   pub lengths-stop : (more : List Test) {number : ℕ} → number ≡ first (length_tests e k n) → 0 < number →
       number ≡ first (length_tests e k n ++ more)

@@ -2,7 +2,7 @@
 -- the two blocks that are made of it: `inner-words` and `outer-words`.
 use Prim.Native.Nat.{ℕ, ◌+◌, ◌-◌, ◌≤◌, ◌<◌}
 use mathlib.Core.List.{List, ◌++◌, append_assoc}
-use mathlib.Core.Path.{◌≡◌, sym, ap, ap₂, ◌∙◌}
+use mathlib.Core.Path.{◌≡◌, sym, ap, ◌∙◌}
 use native.Mathlib.Omega.{arith}
 use lib.ListN.{length, take, replicate, length-append, length-replicate, replicate-append-replicate}
 use Rattle.slices.specs.Below.{Bytes}
@@ -32,11 +32,11 @@ module _ (e : ℕ) where
       ∙ sym (padded-room bytes (omega (arith, block_within e)))
 
   module _ (key : List ℕ) where
-    pub long-padded : {H₀ words out : List ℕ} {c : ℕ} → Bytes key → B e < length key → H₀ ≡ start e → c ≡ length key →
-        words ≡ finished e H₀ c key 0 0 → out ≡ padded (digest_from e words) → out ≡ padded (block_key e key)
-    long-padded all long is_start is_count is_words is_out =
+    pub long-padded : {H₀ words out : List ℕ} → Bytes key → B e < length key → H₀ ≡ start e →
+        words ≡ finished e H₀ (length key) key 0 0 → out ≡ padded (digest_from e words) → out ≡ padded (block_key e key)
+    long-padded all long is_start is_words is_out =
         is_out
-        ∙ ap (λ (w : List ℕ). padded (digest_from e w)) (is_words ∙ ap₂ (λ (w : List ℕ) (n : ℕ). finished e w n key 0 0) is_start is_count)
+        ∙ ap (λ (w : List ℕ). padded (digest_from e w)) (is_words ∙ ap (λ (w : List ℕ). finished e w (length key) key 0 0) is_start)
         ∙ ap padded (finished-digest e key all)
         ∙ sym
         (ap padded (long-key e key long)

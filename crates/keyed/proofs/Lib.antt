@@ -1,6 +1,5 @@
 -- Laws of keyed hashes; each function's folder cites them.
 pub mod Soundness
-pub mod Lengths
 pub mod Hashing
 pub mod Keys
 pub mod Adding

@@ -10,27 +10,28 @@ use Rattle.slices.specs.Below.{Bytes}
 use Rattle.fips.specs.Editions.{known}
 use Rattle.fips.proofs.Sizes.{known_small}
 use Rattle.dwsha2.specs.Limit.{too_long}
-use Rattle.halfread.specs.State.{count}
 use Rattle.halfread.specs.Steps as half
-use Rattle.halfread.proofs.Adding.{count-added}
-use Rattle.hmac.specs.Hmac.{B}
+use Rattle.hmac.specs.Hmac.{B, inner_block}
+use Rattle.hmac.proofs.Blocks.{length-inner}
 use Rattle.keyed.specs.State.{sound, Shaped}
 use Rattle.keyed.specs.Steps.{started, added, keyed_of}
-use Rattle.keyed.proofs.Adding.{started-count, started-sound, started-shaped, added-append, added_none, added-sound, added-shaped}
+use Rattle.keyed.proofs.Adding.{started-sound, started-shaped, added-append, added_none, added-sound, added-shaped}
 
 module _ (e : ℕ) (key : List ℕ) where
   pub of-edition : (bytes : List ℕ) → (keyed_of e key bytes).inner.edition ≡ e
   unfolding keyed_of started added half.added half.opened
   of-edition bytes = refl
 
-  pub of-count : (bytes : List ℕ) → count (keyed_of e key bytes).inner ≡ B e + length bytes
-  unfolding keyed_of added
-  of-count bytes = count-added (started e key).inner bytes ∙ ap (λ (n : ℕ). n + length bytes) (started-count e key)
+  pub of-count : (bytes : List ℕ) → (keyed_of e key bytes).inner.count ≡ B e + length bytes
+  unfolding keyed_of started added half.added half.opened
+  of-count bytes = omega (arith, length-inner e key)
 
   -- a start has taken a block
-  room-for : (n : ℕ) → too_long e (B e) n ≡ false → too_long (started e key).inner.edition (count (started e key).inner) n ≡ false
+  room-for : (n : ℕ) → too_long e (B e) n ≡ false → too_long (started e key).inner.edition (started e key).inner.count n ≡ false
   unfolding started half.added half.opened
-  room-for n short = ap (λ (c : ℕ). too_long e c n) (started-count e key) ∙ short
+  room-for n short =
+      let count : 0 + length (inner_block e key) ≡ B e = omega (arith, length-inner e key) in
+      ap (λ (c : ℕ). too_long e c n) count ∙ short
 
   module _ (ok : known e ≡ true) (all : Bytes key) where
     shape : Shaped (started e key)

@@ -15,24 +15,23 @@ use Rattle.slices.proofs.Tests.{holds_at, holds_on, holds-last, fails-at, all_be
 use Rattle.fips.specs.Words.{word}
 use Rattle.fips.specs.Editions.{width}
 use Rattle.halfread.specs.State as half
-use Rattle.halfread.specs.State.{chain_room, tail_room, block_of, count}
+use Rattle.halfread.specs.State.{chain_room, tail_room, block_of}
 use Rattle.keyed.specs.declared.Keyed.{Keyed}
 use Rattle.keyed.specs.State.{more_rules, sound, Shaped}
 
 -- what ownership knows of a keyed hash: its arrays are as long as they are, and its numbers fit their types
 pub owned : (k : Keyed) → length k.inner.words ≡ chain_room → length k.inner.tail ≡ tail_room →
-    Fits u64 k.inner.edition → Fits u64 k.inner.high → Fits u64 k.inner.low →
+    Fits u64 k.inner.edition → Fits u64 k.inner.count →
     ((i : ℕ) → Fits u64 (get_or k.inner.words i 0)) → ((i : ℕ) → Fits u8 (get_or k.inner.tail i 0)) →
     length k.outer ≡ chain_room → ((i : ℕ) → Fits u64 (get_or k.outer i 0)) → Shaped k
-owned k words tail edition high low chain bytes outer fitting =
+owned k words tail edition count chain bytes outer fitting =
     record {
       inner =
           record {
             eight = words;
             wide = tail;
             number = edition.fits;
-            upper = high.fits;
-            lower = low.fits;
+            counted = count.fits;
             fitting = λ i. (chain i).fits;
             bytes = λ i. (bytes i).fits;
           };
@@ -42,7 +41,7 @@ owned k words tail edition high low chain bytes outer fitting =
 
 pub record Sound (k : Keyed) : Type 0 where
   pub inner : half.sound k.inner ≡ true
-  pub block : block_of k.inner ≤ count k.inner
+  pub block : block_of k.inner ≤ k.inner.count
   pub below : Below (2 ^ word (width k.inner.edition)) k.outer
 
 module _ (k : Keyed) where
@@ -55,17 +54,17 @@ module _ (k : Keyed) where
       let at = holds_at _ e in
       record {
         inner = at 0;
-        block = leb-true (block_of k.inner) (count k.inner) (at 1);
+        block = leb-true (block_of k.inner) k.inner.count (at 1);
         below = all_below-below limit k.outer (pow_pos (word (width k.inner.edition))) (at 2);
       }
 
   -- ---- one rule at a time, as the code asks them
 
-  pub few_bytes : leb (block_of k.inner) (count k.inner) ≡ false → holds (more_rules k) ≡ false
+  pub few_bytes : leb (block_of k.inner) k.inner.count ≡ false → holds (more_rules k) ≡ false
   few_bytes e = fails-at (more_rules k) 0 e
 
-  pub outer-decides : leb (block_of k.inner) (count k.inner) ≡ true → holds (more_rules k) ≡ all_below limit k.outer
-  outer-decides e = holds_on _ _ e ∙ holds-last (all_below limit k.outer)
+  pub outer-decides : block_of k.inner ≤ k.inner.count → holds (more_rules k) ≡ all_below limit k.outer
+  outer-decides h = holds_on _ _ (le-leb (block_of k.inner) k.inner.count h) ∙ holds-last (all_below limit k.outer)
 
   pub inner-unsound : half.sound k.inner ≡ false → sound k ≡ false
   unfolding sound
@@ -90,7 +89,4 @@ module _ (k : Keyed) where
       go false p = inner-unsound p ∙ sym p
 
   pub has-sound : Sound k → sound k ≡ true
-  has-sound f =
-      more-decides f.inner
-      ∙ outer-decides (le-leb (block_of k.inner) (count k.inner) f.block)
-      ∙ below-all_below limit k.outer f.below
+  has-sound f = more-decides f.inner ∙ outer-decides f.block ∙ below-all_below limit k.outer f.below

@@ -7,7 +7,7 @@ use Rattle.fips.specs.Editions.{known, digest_bytes}
 use Rattle.dwsha2.specs.Limit.{too_long}
 use Rattle.hmac.specs.Hmac.{B, hmac}
 
--- 5, 7: the edition; the bytes of the key, or a block and the bytes of the message, reach the limit
+-- 5, 7: the edition; the bytes of the key, or a block and the bytes of the message, pass the limit
 abbrev pub length_tests : ℕ → ℕ → ℕ → List Test
 length_tests e k n = 5 when not (known e) ∷ 7 when (too_long e 0 k || too_long e (B e) n) ∷ []
 

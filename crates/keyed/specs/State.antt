@@ -5,7 +5,7 @@ use Rattle.slices.specs.Tests.{holds, all_below}
 use Rattle.fips.specs.Words.{word}
 use Rattle.fips.specs.Editions.{width}
 use Rattle.halfread.specs.State as half
-use Rattle.halfread.specs.State.{chain_room, block_of, count}
+use Rattle.halfread.specs.State.{chain_room, block_of}
 use Rattle.keyed.specs.declared.Keyed.{Keyed}
 
 -- the bytes of the longest tag
@@ -19,7 +19,7 @@ blank = record { inner = half.blank; outer = replicate chain_room 0 }
 module _ (k : Keyed) where
   -- beside the rules of a taken bay: a block or more is taken, and the outer words are below 2^w; whether a key leads to them is not judged
   abbrev pub more_rules : List Bool
-  more_rules = leb (block_of k.inner) (count k.inner) ∷ all_below (2 ^ word (width k.inner.edition)) k.outer ∷ []
+  more_rules = leb (block_of k.inner) k.inner.count ∷ all_below (2 ^ word (width k.inner.edition)) k.outer ∷ []
 
   -- the five rules of a taken bay, and these
   unfoldable pub sound : Bool

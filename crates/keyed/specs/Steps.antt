@@ -6,7 +6,6 @@ use Rattle.slices.specs.Tests.{same}
 use Rattle.fips.specs.Editions.{known, digest_bytes}
 use Rattle.dwsha2.specs.Limit.{too_long}
 use Rattle.dwsha2.specs.Code.Hashing.{finished, digest_from}
-use Rattle.halfread.specs.State.{count}
 use Rattle.halfread.specs.Steps.{opened, closed_digest}
 use Rattle.halfread.specs.Steps as half
 use Rattle.hmac.specs.Hmac.{B, inner_block, outer_block}
@@ -30,7 +29,7 @@ module _ (k : Keyed) where
   -- ---- add: 6, 7
 
   unfoldable pub add_tests : List ℕ → List Test
-  add_tests piece = 6 when not (sound k) ∷ 7 when too_long k.inner.edition (count k.inner) (length piece) ∷ []
+  add_tests piece = 6 when not (sound k) ∷ 7 when too_long k.inner.edition k.inner.count (length piece) ∷ []
 
   unfoldable pub added : List ℕ → Keyed
   added piece = record { inner = half.added k.inner piece; outer = k.outer }

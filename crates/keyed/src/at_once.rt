@@ -1,16 +1,18 @@
 // The tag of a whole message, made or compared: SPEC, "Keyed digests". The message is read where it lies.
-ghost use Rattle.std.specs.Prelude.{◌≡◌};
+ghost use Rattle.std.specs.Prelude.{◌≡◌, false, length};
 ghost use Rattle.answers.specs.Judged.{first};
 ghost use Rattle.answers.specs.Numbers.{number_of};
 ghost use Rattle.slices.specs.Padded.{padded};
-ghost use Rattle.hmac.specs.Hmac.{hmac};
+ghost use Rattle.hmac.specs.Hmac.{B, hmac};
+ghost use Rattle.dwsha2.specs.Limit.{too_long};
 ghost use Rattle.keyed.specs.State.{tag_room};
 ghost use Rattle.keyed.specs.AtOnce.{length_tests, check_at_once_tests, Tags};
 
 use crate::outer::{TAG, tag_of};
-use crate::pads::{INNER, OUTER, block_bits, block_key, finish_after, words_after};
+use crate::pads::{INNER, OUTER, block_key, words_after};
 use answers::Answer;
-use fips::lookup::{digest_bytes, known};
+use fips::lookup::{block_bytes, digest_bytes, known};
+use dwsha2::finish::finish;
 use dwsha2::limit::too_long;
 use slices::front::put_front;
 use slices::same::same_bytes;
@@ -22,10 +24,10 @@ fn gate(edition: u64, key: usize, message: usize) -> Answer
     if !known(edition) {
         return Answer::NoSuchEdition;
     }
-    if too_long(edition, 0, 0, key) {
+    if too_long(edition, 0, key) {
         return Answer::TooLong;
     }
-    if too_long(edition, 0, block_bits(edition), message) {
+    if too_long(edition, block_bytes(edition) as u64, message) {
         return Answer::TooLong;
     }
     Answer::Done
@@ -33,12 +35,14 @@ fn gate(edition: u64, key: usize, message: usize) -> Answer
 
 // The tag with zeros behind it.
 fn made(edition: u64, key: &[u8], message: &[u8]) -> [u8; TAG]
+    requires { too_long edition (B edition) (length message.now) ≡ false }
     ensures { result ≡ padded tag_room (hmac edition key.now message.now) }
 {
     let block = block_key(edition, key);
     let inner = words_after(edition, block, INNER);
     let outer = words_after(edition, block, OUTER);
-    let last = finish_after(edition, inner, message);
+    let count = block_bytes(edition) as u64 + message.len() as u64;
+    let last = finish(edition, inner, count, message, 0, 0);
     tag_of(edition, outer, last)
 }
 

@@ -23,12 +23,11 @@ fn ended(keyed: Keyed) -> [u8; TAG]
 {
     let edition = keyed.inner.edition;
     let words = keyed.inner.words;
-    let high = keyed.inner.high;
-    let low = keyed.inner.low;
+    let count = keyed.inner.count;
     let tail = keyed.inner.tail;
     let outer = keyed.outer;
-    let end = tail_length(edition, low);
-    let last = finish(edition, words, high, low, &tail[..end], 0, 0);
+    let end = tail_length(edition, count);
+    let last = finish(edition, words, count, &tail[..end], 0, 0);
     tag_of(edition, outer, last)
 }
 

@@ -5,8 +5,8 @@ ghost use Rattle.keyed.specs.State.{tag_room};
 ghost use Rattle.keyed.specs.Steps.{outer_digest};
 ghost use Rattle.dwsha2.specs.Code.Hashing.{digest_from};
 
-use crate::pads::finish_after;
-use fips::lookup::digest_bytes;
+use fips::lookup::{block_bytes, digest_bytes};
+use dwsha2::finish::finish;
 use dwsha2::hashing::write_digest;
 
 // The bytes of the longest tag.
@@ -27,6 +27,7 @@ pub(crate) fn tag_of(edition: u64, outer: [u64; 8], last: [u64; 8]) -> [u8; TAG]
 {
     let inner = digest_of(edition, last);
     let n = digest_bytes(edition);
-    let words = finish_after(edition, outer, &inner[..n]);
+    let count = (block_bytes(edition) + n) as u64;
+    let words = finish(edition, outer, count, &inner[..n], 0, 0);
     digest_of(edition, words)
 }

@@ -1,15 +1,14 @@
-// The key as a block, the chaining words after it, and the last words of what follows it: FIPS 198-1 §4, steps 1 to 4 and 7.
-ghost use Rattle.std.specs.Prelude.{◌≡◌, ◌+◌, ◌*◌, length, take};
+// The key as a block, and the chaining words after it: FIPS 198-1 §4, steps 1 to 4 and 7.
+ghost use Rattle.std.specs.Prelude.{◌≡◌, take};
 ghost use Rattle.fips.specs.Editions.{start};
 ghost use Rattle.halfread.specs.State.{padded};
 ghost use Rattle.hmac.specs.Hmac.{xored, B, block_key};
-ghost use Rattle.dwsha2.specs.Code.Hashing.{absorbed, finished};
+ghost use Rattle.dwsha2.specs.Code.Hashing.{absorbed};
 
 use fips::lookup::block_bytes;
 use halfread::TAIL;
 use dwsha2::finish::finish;
 use dwsha2::hashing::{absorb, write_digest};
-use dwsha2::length::{longer, of_bytes};
 use dwsha2::starting::starting_words;
 use slices::front::put_front;
 
@@ -25,8 +24,7 @@ pub(crate) fn block_key(edition: u64, key: &[u8]) -> [u8; TAIL]
     let mut block = [0u8; TAIL];
     if block_bytes(edition) < key.len() {
         let start = starting_words(edition);
-        let length = of_bytes(key.len() as u64);
-        let words = finish(edition, start, length.high, length.low, key, 0, 0);
+        let words = finish(edition, start, key.len() as u64, key, 0, 0);
         write_digest(edition, words, &mut block);
         return block;
     }
@@ -55,19 +53,4 @@ pub(crate) fn words_after(edition: u64, block: [u8; TAIL], pad: u8) -> [u64; 8]
     let bytes = xor(block, pad);
     let end = block_bytes(edition);
     absorb(edition, start, &bytes[..end])
-}
-
-// A block's length: in bits, as every length.
-pub(crate) fn block_bits(edition: u64) -> u64
-    ensures { result ≡ 8 * B edition }
-{
-    8 * block_bytes(edition) as u64
-}
-
-// The last words of a message whose first block left these words, and whose rest are the bytes: no slice is too long for two words.
-pub(crate) fn finish_after(edition: u64, words: [u64; 8], bytes: &[u8]) -> [u64; 8]
-    ensures { result ≡ finished edition words (B edition + length bytes.now) bytes.now 0 0 }
-{
-    let length = longer(0, block_bits(edition), bytes.len());
-    finish(edition, words, length.high, length.low, bytes, 0, 0)
 }

@@ -8,10 +8,10 @@ ghost use Rattle.keyed.specs.State.{blank, more_rules, sound};
 ghost use Rattle.keyed.specs.Steps.{start_tests, started};
 
 use crate::Keyed;
-use crate::pads::{INNER, OUTER, block_bits, block_key, words_after};
+use crate::pads::{INNER, OUTER, block_key, words_after};
 use answers::Answer;
-use fips::lookup::{known, narrow};
-use halfread::sound::{a_block_or_more, below_width};
+use fips::lookup::{block_bytes, known, narrow};
+use halfread::sound::below_width;
 use halfread::{HalfRead, TAIL};
 use dwsha2::limit::too_long;
 
@@ -40,8 +40,7 @@ fn begun(edition: u64, key: &[u8]) -> Keyed
     let outer = words_after(edition, block, OUTER);
     let inner = HalfRead {
         edition,
-        high: 0,
-        low: block_bits(edition),
+        count: block_bytes(edition) as u64,
         words,
         tail: [0; TAIL],
     };
@@ -58,7 +57,7 @@ pub fn start(edition: u64, key: &[u8]) -> Started
             keyed: blank(),
         };
     }
-    if too_long(edition, 0, 0, key.len()) {
+    if too_long(edition, 0, key.len()) {
         return Started {
             answer: Answer::TooLong,
             keyed: blank(),
@@ -76,7 +75,7 @@ pub(crate) fn keeps_more(keyed: Keyed) -> bool
     ensures { result ≡ holds (more_rules keyed) }
 {
     let edition = keyed.inner.edition;
-    if !a_block_or_more(edition, keyed.inner.high, keyed.inner.low) {
+    if keyed.inner.count < block_bytes(edition) as u64 {
         return false;
     }
     let outer = keyed.outer;

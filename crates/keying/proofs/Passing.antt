@@ -4,7 +4,7 @@
 use Prim.Native.Nat.{ℕ, ◌+◌}
 use mathlib.Core.Bool.{Bool, true, false, cond}
 use mathlib.Core.List.{List, ◌++◌}
-use mathlib.Core.Path.{◌≡◌, refl, sym, ap, ◌∙◌}
+use mathlib.Core.Path.{◌≡◌, refl, sym, ◌∙◌}
 use native.Mathlib.Omega.{arith}
 use borrow.Author.Tests.{not-false}
 use lib.Dec.{ltb}
@@ -16,9 +16,7 @@ use Rattle.slices.specs.Tests.{same}
 use Rattle.fips.specs.Editions.{known, digest_bytes}
 use Rattle.dwsha2.specs.Limit.{too_long}
 use Rattle.dwsha2.proofs.Limits.{shorter, same_sum}
-use Rattle.halfread.specs.State.{count}
 use Rattle.halfread.specs.Steps as half
-use Rattle.halfread.proofs.Adding.{count-added}
 use Rattle.keyed.specs.declared.Keyed.{Keyed}
 use Rattle.keyed.specs.State.{sound, Shaped}
 use Rattle.keyed.specs.Steps.{start_tests, add_tests, added, tag_of, tag_tests, check_tests}
@@ -44,7 +42,7 @@ start-passes e key p = rw (p.ok, p.within)
 
 -- a keyed hash has no room for so many bytes more
 abbrev pub passes_limit : Keyed → List ℕ → Bool
-passes_limit k piece = too_long k.inner.edition (count k.inner) (length piece)
+passes_limit k piece = too_long k.inner.edition k.inner.count (length piece)
 
 pub record AddPasses (k : Keyed) (piece : List ℕ) : Type 0 where
   pub ok : sound k ≡ true
@@ -89,9 +87,8 @@ module _ (k : Keyed) (shape : Shaped k) (p q : List ℕ) (bytes : Bytes p) where
   unfolding added half.added
   one-sum =
       let e = k.inner.edition in
-      let c = count k.inner in
-      ap (λ (n : ℕ). too_long e n (length q)) (count-added k.inner p)
-      ∙ same_sum e (c + length p) (length q) c (length (p ++ q)) (omega (arith, length-append p q))
+      let c = k.inner.count in
+      same_sum e (c + length p) (length q) c (length (p ++ q)) (omega (arith, length-append p q))
 
   pub passes-both : AddPasses k p → AddPasses (added k p) q → AddPasses k (p ++ q)
   passes-both a b = record { ok = a.ok; within = sym one-sum ∙ b.within }
@@ -101,7 +98,7 @@ module _ (k : Keyed) (shape : Shaped k) (p q : List ℕ) (bytes : Bytes p) where
       record {
         ok = both.ok;
         within =
-            shorter k.inner.edition (count k.inner) (length (p ++ q)) both.within (length p)
+            shorter k.inner.edition k.inner.count (length (p ++ q)) both.within (length p)
             (omega (arith, length-append p q));
       }
 

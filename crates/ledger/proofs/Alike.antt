@@ -1,40 +1,34 @@
 -- `alike`: where two ledgers have the same record in every slot, no later call tells them apart. `counts-as`: so a message's record loaded
 -- is as good as the message given. Both follow the one table that holds those records.
-use Prim.Native.Nat.{ℕ, zero, suc, ◌-◌, ◌^◌, ◌≤◌, ◌<◌}
-use mathlib.Core.Bool.{Bool, true, false}
+use Prim.Native.Nat.{ℕ, zero, suc, ◌-◌, ◌≤◌, ◌<◌}
+use mathlib.Core.Bool.{true, false}
 use mathlib.Core.List.{List, [], ◌++◌, append-nil}
 use mathlib.Core.Path.{◌≡◌, refl, sym, ap, subst, subst₂, ◌∙◌}
 use native.Mathlib.Decide.{ℕ_discrete}
-use native.Mathlib.Nat.{le_refl, sub-zero, sub_self, zero-add}
+use native.Mathlib.Nat.{le_refl, sub-zero, sub_self}
 use native.Mathlib.Omega.{arith}
 use lib.ListN.{length, take, get_or, set, replicate, length-set, length-append, length-replicate}
 use lib.Seq.{take-length, take-suc, set_at, append_snoc, length-take-le, get_or-set_same, get_or-set_other}
-use borrow.Author.Tests.{leb-true}
 use Rattle.slices.specs.Below.{Bytes}
 use Rattle.fips.specs.Editions.{known}
 use Rattle.dwsha2.specs.Limit.{too_long}
 use Rattle.halfread.specs.State.{sound}
-use Rattle.records.specs.Record.{form_for, record_of, loaded, is_record}
-use Rattle.records.proofs.Forms.{record_in-bytes}
-use Rattle.records.proofs.OldForm.{old-loads}
-use Rattle.records.proofs.Records.{length-record_of, saved-loads}
+use Rattle.records.specs.Record.{record_of, loaded, is_record}
+use Rattle.records.proofs.Records.{length-record_of, saved-loads, loaded-saves, record_of-bytes}
 use Rattle.halfread.proofs.Soundness.{facts-sound}
 use Rattle.slices.proofs.Tests.{holds_at}
 use Rattle.bays.specs.Table.{bays_of, room_for, headed, laid_out, put_bay}
 use Rattle.bays.specs.Bay.{bay_of}
 use Rattle.calls.specs.Calls.{Call, lay_out, run}
-use Rattle.ledger.specs.Ledger.{Entry, Fine, FineSlot, Slot, nothing, entry, opened_entry, loaded_entry, with, entry_length}
-use Rattle.ledger.specs.Ledger.{record_for, entry_record}
+use Rattle.ledger.specs.Ledger.{Entry, Fine, FineSlot, Slot, nothing, entry, opened_entry, loaded_entry, with, entry_record}
 use Rattle.ledger.specs.Ledger.{slot_record, Ready, SameRecords}
 use Rattle.ledger.specs.Promise.{AllPassed, said_of, slots_after}
 use Rattle.ledger.specs.Records.{loads}
 use Rattle.ledger.proofs.OwnRecord.{loads-agree}
-use Rattle.ledger.proofs.Entries.{state_of, state-count, record-for, record-entry, state-facts, state-shaped}
-use Rattle.ledger.proofs.Entries.{opened-fine, with-fine, loaded-state}
+use Rattle.ledger.proofs.Entries.{state_of, record-entry, state-facts, state-shaped, opened-fine, with-fine, loaded-state}
 use Rattle.ledger.proofs.Entries.{loaded-fine}
 use Rattle.ledger.proofs.Follows.{Follows, slot_bay, put-follows, laid-follows}
-use Rattle.ledger.specs.Ends.{message_record}
-use Rattle.ledger.specs.Records.{allowed}
+use Rattle.ledger.specs.Ends.{record_of_message}
 use Rattle.ledger.proofs.Ledger.{follows-all, follows-after, laid}
 
 -- ---- every ledger has a table
@@ -92,19 +86,8 @@ module _ (L : ℕ) (l : List Slot) (ready : Ready L l) where
 state-sound : (a : Entry) → Fine a → sound (state_of a) ≡ true
 state-sound a f = facts-sound (state_of a) (state-shaped a f) (state-facts a f)
 
--- an entry's record loads as its state, in every form that has one of it
-pub form-loads : (a : Entry) → Fine a → (old : Bool) → allowed old a.edition (entry_length a) ≡ true →
-    (loaded (record_for a old) ≡ state_of a) × (is_record (record_for a old) ≡ true)
-unfolding state_of
-form-loads a f true may =
-    let asked = holds_at _ may in
-    let few = subst (λ (c : ℕ). c ≤ 2 ^ 40) (sym (state-count a)) (leb-true (entry_length a) (2 ^ 40) (asked 2)) in
-    rw (record-for a f true)
-    (old-loads (state_of a) (state-sound a f) (state-shaped a f) (leb-true 1 a.edition (asked 0)) (leb-true a.edition 6 (asked 1)) few)
-form-loads a f false may = rw (record-for a f false) (saved-loads (state_of a) (state-sound a f) (state-shaped a f))
-
 pub state-loads : (a : Entry) → Fine a → (loaded (entry_record a) ≡ state_of a) × (is_record (entry_record a) ≡ true)
-state-loads a f = form-loads a f false refl
+state-loads a f = rw (record-entry a f) (saved-loads (state_of a) (state-sound a f) (state-shaped a f))
 
 same-state : (a b : Entry) → Fine a → Fine b → entry_record a ≡ entry_record b → state_of a ≡ state_of b
 same-state a b f g e =
@@ -171,8 +154,7 @@ set-records l i r s h e = record { bays = length-set l i r ∙ sym (length-set l
         go (no d) = rw (get_or-set_other l i j r nothing d, get_or-set_other l i j s nothing d)
 
 -- the entry loaded from the record of a message, and the message itself
-module _ (old : Bool) (e : ℕ) (m : List ℕ) (k : known e ≡ true) (all : Bytes m) (short : too_long e 0 (length m) ≡ false)
-    (may : allowed old e (length m) ≡ true) where
+module _ (e : ℕ) (m : List ℕ) (k : known e ≡ true) (all : Bytes m) (short : too_long e 0 (length m) ≡ false) where
   abbrev given : Entry
   given = with (opened_entry e) m
 
@@ -180,54 +162,54 @@ module _ (old : Bool) (e : ℕ) (m : List ℕ) (k : known e ≡ true) (all : Byt
   given-fine = with-fine (opened_entry e) (opened-fine e k) m all short
 
   rec : List ℕ
-  rec = message_record old e m
+  rec = record_of_message e m
 
   rec-bytes : Bytes rec
   unfolding rec
-  rec-bytes = rw (record-for given given-fine old) (record_in-bytes (form_for old) (state_of given) (state-shaped given given-fine))
+  rec-bytes = rw (record-entry given given-fine) (record_of-bytes (state_of given) (state-shaped given given-fine))
 
-  rec-state : (loaded rec ≡ state_of given) × (is_record rec ≡ true)
+  rec-loads : is_record rec ≡ true
   unfolding rec
-  rec-state = form-loads given given-fine old (ap (allowed old e) (zero-add (length m)) ∙ may)
+  rec-loads = (state-loads given given-fine).1
 
-  pub message-loads : loads (message_record old e m) ≡ true
+  pub message-loads : loads (record_of_message e m) ≡ true
   unfolding rec
-  message-loads = loads-agree rec rec-bytes ∙ rec-state.1
+  message-loads = loads-agree rec rec-bytes ∙ rec-loads
 
   loaded-record : slot_record (entry (loaded_entry rec)) ≡ slot_record (entry given)
   unfolding rec
   loaded-record =
-      record-entry (loaded_entry rec) (loaded-fine rec rec-bytes rec-state.1)
-      ∙ ap record_of (loaded-state rec rec-bytes rec-state.1 ∙ rec-state.0)
-      ∙ sym (record-entry given given-fine)
+      record-entry (loaded_entry rec) (loaded-fine rec rec-bytes rec-loads)
+      ∙ ap record_of (loaded-state rec rec-bytes rec-loads)
+      ∙ loaded-saves rec rec-loads
 
   module _ {L : ℕ} {l : List Slot} (r : Ready L l) (i : ℕ) (h : i < length l) where
     pub loaded-as : (calls : List Call) → AllPassed calls →
-        said_of L (set l i (entry (loaded_entry (message_record old e m)))) calls ≡ said_of L (set l i (entry given)) calls
+        said_of L (set l i (entry (loaded_entry (record_of_message e m)))) calls ≡ said_of L (set l i (entry given)) calls
     unfolding rec
     loaded-as calls g =
         alike L (set l i (entry (loaded_entry rec))) (set l i (entry given))
-        (set-ready L l i (entry (loaded_entry rec)) r (loaded-fine rec rec-bytes rec-state.1) h)
+        (set-ready L l i (entry (loaded_entry rec)) r (loaded-fine rec rec-bytes rec-loads) h)
         (set-ready L l i (entry given) r given-fine h)
         (set-records l i (entry (loaded_entry rec)) (entry given) h loaded-record)
         calls g
 
-    loaded-other : {t : List ℕ} → Follows L t (set l i (entry (loaded_entry (message_record old e m)))) → Follows L t (set l i (entry given))
+    loaded-other : {t : List ℕ} → Follows L t (set l i (entry (loaded_entry (record_of_message e m)))) → Follows L t (set l i (entry given))
     unfolding rec
     loaded-other f =
         follows-other f (set-ready L l i (entry given) r given-fine h)
         (set-records l i (entry (loaded_entry rec)) (entry given) h loaded-record)
 
-pub counts-as : (L : ℕ) (l : List Slot) (old : Bool) (i e : ℕ) (m : List ℕ) → Ready L l → i < length l → known e ≡ true → Bytes m →
-    too_long e 0 (length m) ≡ false → allowed old e (length m) ≡ true → (calls : List Call) → AllPassed calls →
-    said_of L (set l i (entry (loaded_entry (message_record old e m)))) calls ≡ said_of L (set l i (entry (with (opened_entry e) m))) calls
-counts-as L l old i e m r h k all short may calls g = loaded-as old e m k all short may r i h calls g
+pub counts-as : (L : ℕ) (l : List Slot) (i e : ℕ) (m : List ℕ) → Ready L l → i < length l → known e ≡ true → Bytes m →
+    too_long e 0 (length m) ≡ false → (calls : List Call) → AllPassed calls →
+    said_of L (set l i (entry (loaded_entry (record_of_message e m)))) calls ≡ said_of L (set l i (entry (with (opened_entry e) m))) calls
+counts-as L l i e m r h k all short calls g = loaded-as e m k all short r i h calls g
 
 -- a table that follows the one follows the other
-pub follows-loaded : {L : ℕ} {t u : List ℕ} {l : List Slot} → Follows L t l → (i : ℕ) → i < length l → (old : Bool) (e : ℕ) (m : List ℕ) →
-    known e ≡ true → Bytes m → too_long e 0 (length m) ≡ false → allowed old e (length m) ≡ true →
-    Follows L u (set l i (entry (loaded_entry (message_record old e m)))) → Follows L u (set l i (entry (with (opened_entry e) m)))
-follows-loaded f i h old e m k all short may g = loaded-other old e m k all short may (follows-ready f) i h g
+pub follows-loaded : {L : ℕ} {t u : List ℕ} {l : List Slot} → Follows L t l → (i : ℕ) → i < length l → (e : ℕ) (m : List ℕ) →
+    known e ≡ true → Bytes m → too_long e 0 (length m) ≡ false → Follows L u (set l i (entry (loaded_entry (record_of_message e m)))) →
+    Follows L u (set l i (entry (with (opened_entry e) m)))
+follows-loaded f i h e m k all short g = loaded-other e m k all short (follows-ready f) i h g
 
 -- ---- every ledger that calls reach is one that `alike` speaks of
 

@@ -3,7 +3,7 @@
 use Prim.Native.Nat.{ℕ, ◌<◌}
 use mathlib.Core.Bool.{Bool, true, false, not, cond, false≢true}
 use mathlib.Core.List.{List, [], ◌∷◌}
-use mathlib.Core.Path.{◌≡◌, refl, sym, ap, subst, subst₂, ◌∙◌}
+use mathlib.Core.Path.{◌≡◌, refl, sym, ap, ap₂, subst, subst₂, ◌∙◌}
 use native.Mathlib.Omega.{arith}
 use lib.Dec.{ltb}
 use lib.ListN.{length, set, replicate}
@@ -17,7 +17,6 @@ use Rattle.dwsha2.specs.Limit.{too_long}
 use Rattle.dwsha2.specs.Closing.{closing_fits}
 use Rattle.dwsha2.proofs.AtOnce.{closing-few}
 use Rattle.halfread.specs.declared.HalfRead.{HalfRead}
-use Rattle.halfread.specs.State.{count}
 use Rattle.halfread.specs.Steps.{added}
 use Rattle.halfread.specs.Steps as Steps
 use Rattle.records.specs.Record.{record_of, record_length, is_record}
@@ -32,9 +31,9 @@ use Rattle.ledger.specs.Ledger.{saying}
 use Rattle.ledger.specs.Records.{loads}
 use Rattle.calls.specs.Calls.{Passed}
 use Rattle.ledger.proofs.Entries.{state_of, state-shaped, record-entry, added-entry, digest-entry, with-fine, opened-state}
-use Rattle.ledger.proofs.Entries.{state-count, opened-fine, loaded-state, loaded-fine}
+use Rattle.ledger.proofs.Entries.{opened-fine, loaded-state, loaded-fine}
 use Rattle.ledger.proofs.OwnRecord.{loads-agree}
-use Rattle.ledger.proofs.Follows.{Follows, at, shown, gated, passed-gate, put-follows, laid-follows, half-slot}
+use Rattle.ledger.proofs.Follows.{Follows, at, shown, gated, passed-gate, put-follows, laid-follows, half-slot, state-count}
 use Rattle.ledger.proofs.Follows.{not-not, slot_bay, state-edition}
 
 -- what a call that is done leaves is the same in both, and the table still follows
@@ -126,7 +125,7 @@ module _ {L : ℕ} {t : List ℕ} {l : List Slot} (f : Follows L t l) where
   adding-step i piece all = record { answer = gated f i us vs same; done = λ z. made (passed-gate f i us z) }
     where
       us : List Test
-      us = 6 when not (sound_bay (bay_at t i)) ∷ 4 when is_empty (bay_at t i) ∷ 7 when too_long (half_at t i).edition (count (half_at t i))
+      us = 6 when not (sound_bay (bay_at t i)) ∷ 4 when is_empty (bay_at t i) ∷ 7 when too_long (half_at t i).edition (half_at t i).count
           (length piece) ∷ []
 
       vs : List Test
@@ -257,7 +256,7 @@ module _ {L : ℕ} {t : List ℕ} {l : List Slot} (f : Follows L t l) where
       made : (i < length l) × (first us ≡ 0) → Done L t l (asking i)
       made r =
           let s = shown f i r.0 in
-          record { output = refl; says = λ j. told (s.edition j) (s.high j) (s.low j); follows = f }
+          record { output = refl; says = ap₂ told s.edition s.count; follows = f }
 
   dropping-step : (i : ℕ) → Step L t l (dropping i)
   unfolding tests ledger_tests leaves tells written saying kept first

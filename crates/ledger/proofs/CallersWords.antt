@@ -14,7 +14,7 @@ use Rattle.fips.proofs.Rules.{length-start}
 use Rattle.dwsha2.proofs.Absorbed.{length-absorbed}
 use Rattle.halfread.specs.declared.HalfRead.{HalfRead}
 use Rattle.halfread.specs.Steps.{opened, added, waiting}
-use Rattle.records.specs.Record.{Form, word_count, form_of, read_in, loaded}
+use Rattle.records.specs.Record.{word_count, read_in, loaded}
 use Rattle.bays.specs.Places.{place_of, bay_words}
 use Rattle.bays.specs.Table.{bays_of, headed, put_bay, laid_out}
 use Rattle.bays.specs.Bay.{half_of, bay_of, empty_bay}
@@ -59,12 +59,9 @@ added-eight : (h : HalfRead) (piece : List ℕ) → length h.words ≡ 8 → len
 unfolding added
 added-eight h piece e = length-absorbed h.edition h.words (waiting h piece) e
 
-read-eight : (f : Form) (bytes : List ℕ) → length (read_in f bytes).words ≡ 8
-unfolding read_in
-read-eight f bytes = length-to_words word_count _ _
-
 loaded-eight : (bytes : List ℕ) → length (loaded bytes).words ≡ 8
-loaded-eight bytes = read-eight (form_of bytes) bytes
+unfolding read_in
+loaded-eight bytes = length-to_words word_count _ _
 
 laid-past : (n m : ℕ) (t : List ℕ) → n ≤ m → drop (place_of m) (laid_out n t) ≡ drop (place_of m) t
 laid-past n m t h =

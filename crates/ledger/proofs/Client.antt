@@ -21,7 +21,7 @@ use Rattle.bays.specs.Bay.{bay_of}
 use Rattle.calls.specs.Calls.{Call, lay_out, opening, adding, closing, saving, loading, dropping, Lends, tests, leaves, Outcome}
 use Rattle.ledger.specs.Ledger.{Entry, Fine, Slot, nothing, entry, opened_entry, with, entry_length, entry_record, entry_digest}
 use Rattle.ledger.specs.Ledger.{slot_with, ledger_tests, kept, written}
-use Rattle.ledger.proofs.Entries.{state_of, state-count, state-shaped, record-entry}
+use Rattle.ledger.proofs.Entries.{state_of, state-shaped, record-entry}
 use Rattle.ledger.proofs.Follows.{Follows, shown, put-follows, laid-follows}
 use Rattle.ledger.proofs.CallByCall.{step}
 use Rattle.ledger.proofs.Alike.{state-loads}
@@ -34,10 +34,7 @@ Called t c n u o = Outcome t c n u o × Lends t c
 pub record-length : (en : Entry) → Fine en →
     length (entry_record en) ≡ tail_at newest en.edition + entry_length en % block_bytes (width en.edition)
 unfolding state_of
-record-length en fine =
-    ap length (record-entry en fine)
-    ∙ length-record_of (state_of en) (state-shaped en fine)
-    ∙ ap (λ (c : ℕ). tail_at newest en.edition + c % block_bytes (width en.edition)) (state-count en)
+record-length en fine = ap length (record-entry en fine) ∙ length-record_of (state_of en) (state-shaped en fine)
 
 -- a layout that fits
 pub after-layout : (t : List ℕ) (n : ℕ) → room_for n (length t) ≡ true → {r : ℕ} {u : List ℕ} → Called t (lay_out n) r u [] →

@@ -23,7 +23,7 @@ use Rattle.ledger.specs.Records.{loads}
 use Rattle.ledger.specs.Sound.{SoundTable, ledger_of}
 use Rattle.ledger.specs.Traces.{Doing, Trace}
 use Rattle.ledger.specs.Code.{Did}
-use Rattle.ledger.specs.Ends.{piece_for, ends_bay, given_to, Stays, message_record, record_of_message, OpenedWrites, LoadedWrites}
+use Rattle.ledger.specs.Ends.{piece_for, ends_bay, given_to, Stays, record_of_message, OpenedWrites, LoadedWrites}
 use Rattle.ledger.proofs.Follows.{Follows}
 use Rattle.ledger.proofs.Ledger.{opened-digest}
 use Rattle.ledger.proofs.Alike.{follows-loaded, message-loads}
@@ -191,7 +191,7 @@ module _ (D : Doing) (faithful : Faithful D) where
           (get_or-set_same (ledger_of t) i (entry (opened_entry e)) nothing put.0)
 
   pub loaded-writes : LoadedWrites D
-  loaded-writes old i e m k all short may = (
+  loaded-writes i e m k all short = (
     (
       (λ x b out t t' s sound did z. from t t' s sound did z (closing i x b out) _ (closing-law i e x b out)),
       (λ out t t' s sound did z. from t t' s sound did z (saving i out) _ (saving-law i e out)),
@@ -199,22 +199,22 @@ module _ (D : Doing) (faithful : Faithful D) where
     never,
   )
     where
-      from : (t t' : List ℕ) (s : Seen) → SoundTable t → D t (loading i (message_record old e m)) s t' → s.answer ≡ 0 →
+      from : (t t' : List ℕ) (s : Seen) → SoundTable t → D t (loading i (record_of_message e m)) s t' → s.answer ≡ 0 →
           (c : Call) (wrote : List ℕ → List ℕ) → Law i e c wrote →
           (calls : List Call) (shown : List Seen) (u : List ℕ) → Trace D t' calls shown u → Stays i calls shown →
           (z : Seen) (v : List ℕ) → D u c z v → z.answer ≡ 0 → z.output ≡ wrote (m ++ given_to i calls shown)
       from t t' s sound did z =
           let f = did-sound D faithful sound did in
-          let put = loading-puts (length t) (ledger_of t) i (message_record old e m) (answered f did z) in
+          let put = loading-puts (length t) (ledger_of t) i (record_of_message e m) (answered f did z) in
           let g = subst (Follows (length t) t') put.1 (did-follows D faithful f did) in
-          ends (follows-loaded f i put.0 old e m k all short may g) i
+          ends (follows-loaded f i put.0 e m k all short g) i
           (omega (arith, put.0, length-set (ledger_of t) i (entry (with (opened_entry e) m)))) e m
           (get_or-set_same (ledger_of t) i (entry (with (opened_entry e) m)) nothing put.0)
 
-      never : (t t' : List ℕ) (s : Seen) → SoundTable t → D t (loading i (message_record old e m)) s t' → s.answer ≡ 10 → ⊥
+      never : (t t' : List ℕ) (s : Seen) → SoundTable t → D t (loading i (record_of_message e m)) s t' → s.answer ≡ 10 → ⊥
       never t t' s sound did z =
           let f = did-sound D faithful sound did in
-          not-ten (length t) (ledger_of t) i (message_record old e m) (message-loads old e m k all short may)
+          not-ten (length t) (ledger_of t) i (record_of_message e m) (message-loads e m k all short)
           (ap (λ (y : Seen). y.answer) (sym (did-seen D faithful f did)) ∙ z)
 
 pub code-opened-writes : OpenedWrites Did

@@ -1,11 +1,11 @@
 -- The ledger's entries and the half-read messages that stand for them. The state of a fine entry is sound, a piece
 -- added to it is the piece added to the entry, and its digest is the entry's.
 use Prim.Native.Nat.{ℕ, zero, suc, ◌+◌, ◌-◌, ◌*◌, ◌/◌, ◌%◌, ◌^◌, ◌≤◌, ◌<◌}
-use mathlib.Core.Bool.{Bool, true, false}
+use mathlib.Core.Bool.{true, false}
 use mathlib.Core.List.{List, [], ◌∷◌, ◌++◌, append_assoc}
 use mathlib.Core.Path.{◌≡◌, refl, sym, ap, ap₂, subst, ◌∙◌}
 use native.Mathlib.Nat.{lt_of_lt_of_le, mod-lt, mod-le, div-add-mod', mul-add-mod_self_right, mod-eq_of_lt, div-eq_of_lt}
-use native.Mathlib.Nat.{add-mul, zero-mul, suc-mul, add_assoc, add-zero}
+use native.Mathlib.Nat.{add-mul, zero-mul, suc-mul, add_assoc}
 use native.Mathlib.Omega.{arith}
 use lib.ListN.{length, take, drop, replicate, length-append, take-append-drop}
 use lib.Pow.{pow_mono}
@@ -21,35 +21,32 @@ use Rattle.fips.specs.Code.ByteForm.{closing_byte, ending, parse_bytes}
 use Rattle.fips.proofs.Sizes.{known_small}
 use Rattle.fips.proofs.Editions.{width_some}
 use Rattle.fips.proofs.ByteForm.{behind-bytes, parse-bytes, ending-bytes}
-use Rattle.dwsha2.specs.Length.{high_of, low_of}
-use Rattle.dwsha2.proofs.Limits.{length-of, eights-of, high_fits, low_fits, length-fits, same_sum, no_length}
+use Rattle.dwsha2.proofs.Limits.{length-fits, same_sum, no_length}
 use Rattle.slices.specs.Blocks.{rest}
 use Rattle.slices.proofs.Blocks.{length_rest, rest-append, length_whole}
 use Rattle.fips.proofs.Padding.{zeros-period}
 use Rattle.fips.proofs.Rules.{start-lt, length-start}
 use Rattle.slices.specs.AtFront.{at_front}
 use Rattle.dwsha2.specs.Limit.{too_long}
-use Rattle.dwsha2.specs.Code.Hashing.{absorbed, last_bytes, finished, digest_from}
+use Rattle.dwsha2.specs.Code.Hashing.{absorbed, last_bytes, digest_from}
 use Rattle.slices.proofs.AtFront.{length-at_front}
 use Rattle.fips.proofs.Sizes.{bytes-within, block-some, block_within}
 use Rattle.dwsha2.proofs.Absorbed.{length-absorbed, absorbed-below, absorbed-none, absorbed-append, absorbed-rest, absorbed-chain}
 use Rattle.dwsha2.proofs.Finished.{finished-absorbed}
 use Rattle.halfread.specs.declared.HalfRead.{HalfRead}
-use Rattle.halfread.specs.State.{block_of, count, tail_length, pending, padded, Shaped, tail_room}
+use Rattle.halfread.specs.State.{block_of, tail_length, pending, padded, Shaped, tail_room}
 use Rattle.halfread.specs.Steps.{opened, added}
 use Rattle.halfread.specs.Steps as Steps
-use Rattle.records.specs.Record.{form_for, record_in, record_of, loaded, is_record}
-use Rattle.halfread.proofs.Adding.{whole_length}
+use Rattle.records.specs.Record.{record_of, read_in, loaded, is_record}
 use Rattle.halfread.proofs.Fields.{same-state}
-use Rattle.records.proofs.Records.{loaded-shaped, loaded-sound}
+use Rattle.records.proofs.Records.{loaded-sound, loaded-shaped}
 use Rattle.halfread.proofs.Rules.{tail-lt}
 use Rattle.halfread.proofs.Soundness.{Sound, sound-facts}
 use Rattle.halfread.proofs.Tails.{take-padded, padded-bytes, length-pending}
-use Rattle.ledger.specs.Records.{record_bytes, read_old, tail_read}
-use Rattle.ledger.specs.Ledger.{Entry, Fine, opened_entry, loaded_entry, with, entry_length, entry_words, record_for}
-use Rattle.ledger.specs.Ledger.{entry_record, closed_bits}
+use Rattle.ledger.specs.Records.{record_bytes, read_edition, read_length, read_words}
+use Rattle.ledger.specs.Ledger.{Entry, Fine, opened_entry, loaded_entry, with, entry_length, entry_words, entry_record, closed_bits}
 use Rattle.ledger.specs.Ledger.{entry_digest}
-use Rattle.ledger.proofs.OwnRecord.{record-agrees, loaded-read}
+use Rattle.ledger.proofs.OwnRecord.{record-agrees, tail-long, pending-read}
 
 -- the half-read message that stands for an entry: every whole block is absorbed, and what is left over waits
 unfoldable pub state_of : Entry → HalfRead
@@ -57,8 +54,7 @@ state_of en =
     let p : Width = width en.edition in
     record {
       edition = en.edition;
-      high = high_of (entry_length en);
-      low = low_of (entry_length en);
+      count = entry_length en;
       words = chain p en.start_words (parse_bytes p en.since);
       tail = padded (rest (block_bytes p) en.since);
     }
@@ -81,10 +77,6 @@ no_block (suc k) n m h = absurd (omega (arith, suc-mul k n))
 
 -- ---- an entry's state
 
-pub state-count : (en : Entry) → count (state_of en) ≡ entry_length en
-unfolding state_of
-state-count en = length-of (entry_length en)
-
 module _ (en : Entry) (fine : Fine en) where
   abbrev p : Width
   p = width en.edition
@@ -100,10 +92,7 @@ module _ (en : Entry) (fine : Fine en) where
 
   pub tail-state : tail_length (state_of en) ≡ length s % n
   unfolding state_of
-  tail-state =
-      ap (λ (m : ℕ). m % n) (state-count en)
-      ∙ ap (λ (m : ℕ). (m + length s) % n) fine.whole
-      ∙ mul-add-mod_self_right fine.blocks n (length s)
+  tail-state = ap (λ (m : ℕ). (m + length s) % n) fine.whole ∙ mul-add-mod_self_right fine.blocks n (length s)
 
   pub pending-state : pending (state_of en) ≡ rest n s
   unfolding state_of
@@ -136,11 +125,10 @@ module _ (en : Entry) (fine : Fine en) where
   state-facts =
       record {
         known = fine.is_known;
-        limited = ap (λ (c : ℕ). too_long en.edition c 0) (state-count en) ∙ fine.within;
-        eights = eights-of (entry_length en);
+        limited = fine.within;
         below = below-words;
         tail = ap padded (sym pending-state);
-        begun = λ h. begun-words (subst (λ (c : ℕ). c < n) (state-count en) h);
+        begun = begun-words;
       }
 
   pub state-shaped : Shaped (state_of en)
@@ -150,26 +138,18 @@ module _ (en : Entry) (fine : Fine en) where
         eight = ap length words-front ∙ length-absorbed en.edition en.start_words (front n s) fine.eight;
         wide = length-at_front (rest n s) (replicate tail_room 0);
         number = omega (arith, known_small en.edition fine.is_known);
-        upper =
-            high_fits (entry_length en)
-            (subst (λ (c : ℕ). 8 * c < 2 ^ 128) (add-zero (entry_length en))
-            (length-fits en.edition (entry_length en) 0 fine.within));
-        lower = low_fits (entry_length en);
+        counted = omega (arith, length-fits en.edition (entry_length en) 0 fine.within);
         fitting = λ i. lt_of_lt_of_le (below-words i) (pow_mono {j = 64} (omega (arith, bytes-within en.edition)));
         bytes = padded-bytes (rest n s) (below-drop (length s / n * n) s fine.bytes);
       }
 
-  -- and its record is the state's, in either form
-  pub record-for : (old : Bool) → record_for en old ≡ record_in (form_for old) (state_of en)
-  unfolding record_for entry_words state_of
-  record-for old =
-      ap₂ (record_bytes old en.edition (entry_length en))
-      (ap (chain p en.start_words) (parse-bytes p s fine.bytes)) (sym pending-state)
-      ∙ ap (λ (c : ℕ). record_bytes old en.edition c (state_of en).words (pending (state_of en))) (sym (state-count en))
-      ∙ record-agrees old (state_of en) (eights-of (entry_length en)) (length-pending (state_of en) state-shaped.wide)
-
+  -- and its record is the state's
   pub record-entry : entry_record en ≡ record_of (state_of en)
-  record-entry = record-for false
+  unfolding entry_record entry_words state_of
+  record-entry =
+      ap₂ (record_bytes en.edition (entry_length en))
+      (ap (chain p en.start_words) (parse-bytes p s fine.bytes)) (sym pending-state)
+      ∙ record-agrees (state_of en) (length-pending (state_of en) state-shaped.wide)
 
   -- the bytes that wait, and those of the entry with a piece more
   all-bytes : (piece : List ℕ) → s ++ piece ≡ front n s ++ (rest n s ++ piece)
@@ -200,11 +180,8 @@ module _ (en : Entry) (fine : Fine en) where
   pub added-entry : (piece : List ℕ) → state_of (with en piece) ≡ added (state_of en) piece
   unfolding added state_of
   added-entry piece =
-      let long : entry_length (with en piece) ≡ count (state_of en) + length piece =
-      ap (λ (k : ℕ). en.before + k) (length-append s piece)
-      ∙ sym (add_assoc en.before (length s) (length piece))
-      ∙ ap (λ (c : ℕ). c + length piece) (sym (state-count en)) in
-      same-state _ _ refl (ap high_of long) (ap low_of long)
+      same-state _ _ refl
+      (ap (λ (k : ℕ). en.before + k) (length-append s piece) ∙ sym (add_assoc en.before (length s) (length piece)))
       (more-words piece) (ap padded (more-rest piece))
 
   -- the last bytes of an entry: whole blocks before them change neither the zeros nor the length
@@ -218,9 +195,9 @@ module _ (en : Entry) (fine : Fine en) where
       ∙ sym (add_assoc (k * n) (m * n) (length (rest n s)))
       ∙ ap (λ (j : ℕ). j + length (rest n s)) (sym (add-mul k m n))
       in
-      let none : zeros p.bytes (entry_length en) ≡ zeros p.bytes (length (rest n s)) =
+      let count : zeros p.bytes (entry_length en) ≡ zeros p.bytes (length (rest n s)) =
       ap (zeros p.bytes) place ∙ zeros-period p.bytes (k + m) (length (rest n s)) in
-      rw none
+      rw count
       (all-bytes _
       ∙ ap (λ (l : List ℕ). front n s ++ l)
       (sym (append_assoc (rest n s) (closing_byte x b ∷ replicate (zeros p.bytes (length (rest n s))) 0)
@@ -246,8 +223,7 @@ module _ (en : Entry) (fine : Fine en) where
       ∙ behind-front (last_bytes p (entry_length en) (rest n s) x b)
       ∙ ap₂ (λ (t : List ℕ) (k : ℕ). absorbed en.edition (state_of en).words (last_bytes p (entry_length en) t x k))
       (sym pending-state) (sym (mod-eq_of_lt (omega arith)))
-      ∙ sym (finished-absorbed en.edition (state_of en).words (entry_length en) (pending (state_of en)) x b)
-      ∙ ap (λ (c : ℕ). finished en.edition (state_of en).words c (pending (state_of en)) x b) (sym (state-count en)))
+      ∙ sym (finished-absorbed en.edition (state_of en).words (entry_length en) (pending (state_of en)) x b))
 
   pub with-fine : (piece : List ℕ) → Bytes piece → too_long en.edition (entry_length en) (length piece) ≡ false → Fine (with en piece)
   with-fine piece all room =
@@ -270,7 +246,7 @@ pub opened-state : (e : ℕ) → state_of (opened_entry e) ≡ opened e
 unfolding state_of opened at_front
 opened-state e =
     let p = width e in
-    same-state _ _ refl refl refl (absorbed-chain e (start e) [] (start-lt e) ∙ absorbed-none e (start e) [] (start-lt e) (block-some e))
+    same-state _ _ refl refl (absorbed-chain e (start e) [] (start-lt e) ∙ absorbed-none e (start e) [] (start-lt e) (block-some e))
     (ap padded (drop-nil (0 / block_bytes p * block_bytes p)))
 
 pub opened-fine : (e : ℕ) → known e ≡ true → Fine (opened_entry e)
@@ -289,21 +265,20 @@ opened-fine e k =
 -- an entry made of a sound state stands for that state
 module _ (h : HalfRead) (shaped : Shaped h) (facts : Sound h) where
   abbrev entry_of : Entry
-  entry_of = record { edition = h.edition; start_words = h.words; before = count h - tail_length h; since = pending h }
+  entry_of = record { edition = h.edition; start_words = h.words; before = h.count - tail_length h; since = pending h }
 
   pending-long : length (pending h) ≡ tail_length h
   pending-long = length-pending h shaped.wide
 
-  entry-count : count h - tail_length h + length (pending h) ≡ count h
-  entry-count = omega (arith, pending-long, mod-le (count h) (block_of h))
+  entry-count : h.count - tail_length h + length (pending h) ≡ h.count
+  entry-count = omega (arith, pending-long, mod-le h.count (block_of h))
 
   entry-state : state_of entry_of ≡ h
   unfolding state_of
   entry-state =
       let p = width h.edition in
       let small : length (pending h) < block_of h = rw pending-long (tail-lt h) in
-      let is = whole_length h shaped.lower facts.eights in
-      same-state _ _ refl (ap high_of entry-count ∙ sym is.0) (ap low_of entry-count ∙ sym is.1)
+      same-state _ _ refl entry-count
       (absorbed-chain h.edition h.words (pending h) facts.below
       ∙ absorbed-none h.edition h.words (pending h) facts.below small)
       (ap (λ (k : ℕ). padded (drop (k * block_of h) (pending h))) (div-eq_of_lt small)
@@ -316,11 +291,11 @@ module _ (h : HalfRead) (shaped : Shaped h) (facts : Sound h) where
         is_known = facts.known;
         eight = shaped.eight;
         below = facts.below;
-        blocks = count h / block_of h;
-        whole = omega (arith, div-add-mod' (count h) (block_of h));
+        blocks = h.count / block_of h;
+        whole = omega (arith, div-add-mod' h.count (block_of h));
         bytes = below-take (tail_length h) h.tail shaped.bytes;
         within = rw entry-count facts.limited;
-        begun = λ z. facts.begun (omega (arith, tail-lt h, mod-le (count h) (block_of h)));
+        begun = λ z. facts.begun (omega (arith, tail-lt h, mod-le h.count (block_of h)));
       }
 
 module _ (bytes : List ℕ) (all : Bytes bytes) (is_one : is_record bytes ≡ true) where
@@ -332,17 +307,15 @@ module _ (bytes : List ℕ) (all : Bytes bytes) (is_one : is_record bytes ≡ tr
 
   -- the entry that the ledger loads is the one of the state
   entry-loaded : loaded_entry bytes ≡ entry_of (loaded bytes) shape facts-of
-  unfolding loaded_entry
+  unfolding loaded_entry read_in
   entry-loaded =
-      let r = loaded-read bytes all is_one in
-      let long : length (tail_read (read_old bytes) bytes) ≡ tail_length (loaded bytes) =
-      ap length r.tail ∙ length-pending (loaded bytes) shape.wide in
+      let long = tail-long bytes all is_one in
       λ i.
       record {
-        edition = r.edition i;
-        start_words = r.words i;
-        before = r.length i - long i;
-        since = r.tail i;
+        edition = read_edition bytes;
+        start_words = read_words bytes;
+        before = read_length bytes - long i;
+        since = sym (pending-read bytes all long) i;
       }
 
   pub loaded-state : state_of (loaded_entry bytes) ≡ loaded bytes

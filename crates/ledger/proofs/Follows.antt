@@ -13,8 +13,6 @@ use lib.Seq.{get_or-set_same, get_or-set_other}
 use borrow.Author.Tests.{leb-false}
 use Rattle.answers.specs.Judged.{Test, ◌when◌, first}
 use Rattle.halfread.specs.declared.HalfRead.{HalfRead}
-use Rattle.halfread.specs.State.{count}
-use Rattle.dwsha2.specs.Length.{high_of, low_of}
 use Rattle.slices.specs.Below.{Below}
 use Rattle.slices.specs.Tests.{every}
 use Rattle.slices.proofs.Below.{below-replicate}
@@ -31,7 +29,7 @@ use Rattle.bays.proofs.LaidOut.{headed-laid_out, bays_of-laid_out, length-laid_o
 use Rattle.bays.proofs.Packing.{half_of-bay_of, bay_of-half_of, shaped-half_of, length-bay_of, taken-bay_of, sound_bay-bay_of}
 use Rattle.bays.proofs.Packing.{zeros-empty, empty-zeros, sound_bay-empty, sound_bay-taken}
 use Rattle.ledger.specs.Sound.{SoundTable, slot_of, slots_of, ledger_of}
-use Rattle.ledger.proofs.Entries.{state_of, state-count, state-facts, state-shaped, loaded-state, loaded-fine}
+use Rattle.ledger.proofs.Entries.{state_of, state-facts, state-shaped, loaded-state, loaded-fine}
 
 -- the words of a slot
 abbrev pub slot_bay : Slot → List ℕ
@@ -51,9 +49,7 @@ pub record Shows (b : List ℕ) (s : Slot) : Type 0 where
   pub is_sound : sound_bay b ≡ true
   pub empty : is_empty b ≡ not (is_entry s)
   pub edition : (half_of b).edition ≡ slot_edition s
-  pub count : count (half_of b) ≡ slot_length s
-  pub high : (half_of b).high ≡ high_of (slot_length s)
-  pub low : (half_of b).low ≡ low_of (slot_length s)
+  pub count : (half_of b).count ≡ slot_length s
 
 slot-length : (s : Slot) → FineSlot s → length (slot_bay s) ≡ bay_words
 slot-length nothing f = refl
@@ -64,19 +60,15 @@ half-slot en f = half_of-bay_of (state_of en) (state-shaped en f)
 
 nothing-shows : Shows empty_bay nothing
 unfolding sound_bay is_empty half_of every
-nothing-shows = record { is_sound = refl; empty = refl; edition = refl; count = refl; high = refl; low = refl }
+nothing-shows = record { is_sound = refl; empty = refl; edition = refl; count = refl }
 
 pub state-edition : (en : Entry) → (state_of en).edition ≡ en.edition
 unfolding state_of
 state-edition en = refl
 
-state-high : (en : Entry) → (state_of en).high ≡ high_of (entry_length en)
+pub state-count : (en : Entry) → (state_of en).count ≡ entry_length en
 unfolding state_of
-state-high en = refl
-
-state-low : (en : Entry) → (state_of en).low ≡ low_of (entry_length en)
-unfolding state_of
-state-low en = refl
+state-count en = refl
 
 entry-shows : (en : Entry) → Fine en → Shows (bay_of (state_of en)) (entry en)
 entry-shows en f =
@@ -87,9 +79,7 @@ entry-shows en f =
       is_sound = sound_bay-bay_of (state_of en) shaped is_sound;
       empty = taken-bay_of (state_of en) shaped is_sound;
       edition = ap (λ (h : HalfRead). h.edition) half ∙ state-edition en;
-      count = ap count half ∙ state-count en;
-      high = ap (λ (h : HalfRead). h.high) half ∙ state-high en;
-      low = ap (λ (h : HalfRead). h.low) half ∙ state-low en;
+      count = ap (λ (h : HalfRead). h.count) half ∙ state-count en;
     }
 
 slot-shows : (s : Slot) → FineSlot s → Shows (slot_bay s) s

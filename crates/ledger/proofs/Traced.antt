@@ -147,8 +147,7 @@ code-some t (loading i bytes) l =
 code-some t (asking i) l =
     let c = asking i in
     some Did (ask-did
-    (call ([], tt) (slice t, (i, tt))
-    (record { answer = answered t c; edition = (says t c).edition; high = (says t c).high; low = (says t c).low })
+    (call ([], tt) (slice t, (i, tt)) (record { answer = answered t c; edition = (says t c).edition; count = (says t c).count })
     (tt, (tt, tt)) (asked t i, l)))
 code-some t (dropping i) l =
     let c = dropping i in

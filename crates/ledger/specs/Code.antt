@@ -39,6 +39,6 @@ pub data Did : List ℕ → Call → Seen → List ℕ → Type 0 where
       Did m.args.0.now (loading m.args.1.0 m.args.1.1.0.now) (shows (number_of m.result) []) (exit m).0.now
   ask-did : (m : Made ask.ended ask-reads.Learnt) →
       Did m.args.0.now (asking m.args.1.0)
-      (shows_told (number_of m.result.answer) (told m.result.edition m.result.high m.result.low)) (exit m).0.now
+      (shows_told (number_of m.result.answer) (told m.result.edition m.result.count)) (exit m).0.now
   drop-did : (m : Made drop.ended drop-reads.Learnt) →
       Did m.args.0.now (dropping m.args.1.0) (shows (number_of m.result) []) (exit m).0.now

@@ -9,8 +9,7 @@ use Rattle.fips.specs.Editions.{known, digest}
 use Rattle.fips.specs.Message.{message}
 use Rattle.dwsha2.specs.Limit.{too_long}
 use Rattle.calls.specs.Calls.{Call, lay_out, opening, adding, closing, saving, loading, asking, dropping, Seen}
-use Rattle.ledger.specs.Ledger.{opened_entry, with, record_for}
-use Rattle.ledger.specs.Records.{allowed}
+use Rattle.ledger.specs.Ledger.{opened_entry, with, entry_record}
 use Rattle.ledger.specs.Sound.{SoundTable}
 use Rattle.ledger.specs.Traces.{Doing, Trace}
 
@@ -49,12 +48,9 @@ module _ (i : ℕ) where
   Stays (c ∷ cs) [] = Unit {0}
   Stays (c ∷ cs) (s ∷ ss) = (s.answer ≡ 0 → ends_bay c ≡ false) × Stays cs ss
 
--- the record of a message, in the form that is saved or in the first, which `old` stands for
-abbrev pub message_record : Bool → ℕ → List ℕ → List ℕ
-message_record old e m = record_for (with (opened_entry e) m) old
-
+-- the record of a message
 abbrev pub record_of_message : ℕ → List ℕ → List ℕ
-record_of_message e m = message_record false e m
+record_of_message e m = entry_record (with (opened_entry e) m)
 
 module _ (Did : Doing) where
   -- bay i was begun by the call c, with m in it, on a table with a right header and sound bays; after any calls that leave it there, `last`
@@ -74,10 +70,9 @@ module _ (Did : Doing) where
   abbrev pub OpenedWrites : Type 0
   OpenedWrites = (i e : ℕ) → Writes i e [] (opening i e)
 
-  -- the record of a message of bytes within the limit, in either form, if the form has one: loaded, the bay goes on from that message;
-  -- and it is never refused as none, 10
+  -- the record of a message of bytes within the limit: loaded, the bay goes on from that message; and it is never refused as none, 10
   abbrev pub LoadedWrites : Type 0
   LoadedWrites =
-      (old : Bool) (i e : ℕ) (m : List ℕ) → known e ≡ true → Bytes m → too_long e 0 (length m) ≡ false → allowed old e (length m) ≡ true →
-      Writes i e m (loading i (message_record old e m))
-      × ((t t' : List ℕ) (s : Seen) → SoundTable t → Did t (loading i (message_record old e m)) s t' → s.answer ≡ 10 → ⊥)
+      (i e : ℕ) (m : List ℕ) → known e ≡ true → Bytes m → too_long e 0 (length m) ≡ false →
+      Writes i e m (loading i (record_of_message e m))
+      × ((t t' : List ℕ) (s : Seen) → SoundTable t → Did t (loading i (record_of_message e m)) s t' → s.answer ≡ 10 → ⊥)

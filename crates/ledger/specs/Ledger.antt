@@ -1,6 +1,6 @@
 -- The plain ledger: SPEC, "The plain ledger". Of a message in a bay it has every byte since the start words, and hashes them all
 -- anew each time. No word of a table is known to it, and none of its answers is 1 or 6.
-use Rattle.std.specs.Prelude.{ℕ, ◌+◌, ◌-◌, ◌*◌, ◌/◌, ◌%◌, ◌^◌, Bool, true, false, not, List, [], ◌∷◌, ◌++◌, ◌≡◌, leb, ltb, length, take, drop, get_or, set, replicate}
+use Rattle.std.specs.Prelude.{ℕ, ◌+◌, ◌-◌, ◌*◌, ◌/◌, ◌^◌, Bool, true, false, not, List, [], ◌∷◌, ◌++◌, ◌≡◌, leb, ltb, length, take, drop, get_or, set, replicate}
 use Rattle.answers.specs.Judged.{Test, ◌when◌, first, after}
 use Rattle.slices.specs.AtFront.{at_front}
 use Rattle.slices.specs.Below.{Below, Bytes}
@@ -16,7 +16,7 @@ use Rattle.dwsha2.specs.Closing.{closing_fits}
 use Rattle.bays.specs.Table.{room_for}
 use Rattle.calls.specs.Calls.{Call, lay_out, opening, adding, closing, saving, loading, asking, dropping, output_of, Told, told}
 use Rattle.calls.specs.Calls.{nothing_told, Seen}
-use Rattle.ledger.specs.Records.{record_bytes, read_old, read_edition, length_read, words_read, tail_read, loads}
+use Rattle.ledger.specs.Records.{record_bytes, read_edition, read_length, read_words, read_tail, loads}
 
 -- a message: the words that its hashing goes on from, how many bytes led to them, and all that came after
 pub record Entry : Type 0 where
@@ -37,19 +37,18 @@ opened_entry e = record { edition = e; start_words = start e; before = 0; since 
 -- a message out of a record: only its tail is known byte by byte
 unfoldable pub loaded_entry : List ℕ → Entry
 loaded_entry bytes =
-    let old : Bool = read_old bytes in
     record {
       edition = read_edition bytes;
-      start_words = words_read old bytes;
-      before = length_read old bytes - length (tail_read old bytes);
-      since = tail_read old bytes;
+      start_words = read_words bytes;
+      before = read_length bytes - length (read_tail bytes);
+      since = read_tail bytes;
     }
 
 module _ (en : Entry) where
   abbrev pub with : List ℕ → Entry
   with piece = record { edition = en.edition; start_words = en.start_words; before = en.before; since = en.since ++ piece }
 
-  -- how many bytes it has by now
+  -- how long it is by now
   abbrev pub entry_length : ℕ
   entry_length = en.before + length en.since
 
@@ -63,12 +62,8 @@ module _ (en : Entry) where
   abbrev pub entry_tail : List ℕ
   entry_tail = drop (length en.since / block_bytes entry_width * block_bytes entry_width) en.since
 
-  -- its record, as it is saved; and that of the first form, which is not saved any more but loads
-  unfoldable pub record_for : Bool → List ℕ
-  record_for old = record_bytes old en.edition entry_length entry_words entry_tail
-
-  abbrev pub entry_record : List ℕ
-  entry_record = record_for false
+  unfoldable pub entry_record : List ℕ
+  entry_record = record_bytes en.edition entry_length entry_words entry_tail
 
   -- the bits that its digest hashes: all since and those of the closing byte, and the padding of FIPS 180-4 §5.1, a 1 bit, the zero bits
   -- and the length of the whole message, what came before included
@@ -168,7 +163,7 @@ module _ (L : ℕ) (l : List Slot) where
   written (asking i) = []
   written (dropping i) = []
 
-  -- what ask tells: the length in bits, in two words
+  -- what ask tells
   unfoldable pub saying : Call → Told
   saying (lay_out n) = nothing_told
   saying (opening i e) = nothing_told
@@ -176,7 +171,7 @@ module _ (L : ℕ) (l : List Slot) where
   saying (closing i x b out) = nothing_told
   saying (saving i out) = nothing_told
   saying (loading i bytes) = nothing_told
-  saying (asking i) = told (slot_edition (slot i)) (8 * slot_length (slot i) / 2 ^ 64) (8 * slot_length (slot i) % 2 ^ 64)
+  saying (asking i) = told (slot_edition (slot i)) (slot_length (slot i))
   saying (dropping i) = nothing_told
 
 pub record Kept : Type 0 where

@@ -32,7 +32,7 @@ reason_words Reason.Byte = ": a name has only bytes 21 to 7e, no blank (rule 15)
 reason_words Reason.Twice = ": named twice (rule 16)\n"
 reason_words Reason.Full = ": a 257th file; a list has at most 256 (rule 17)\n"
 reason_words Reason.Unended = ": a name without a zero byte behind it\n"
-reason_words Reason.TooLong = ": too long for the edition, which every check calls BAD\n"
+reason_words Reason.TooLong = ": over 2^40 bytes, which every check calls BAD\n"
 reason_words (Reason.Unread why) = why_words why
 reason_words Reason.Unfit = ": it cannot be put in the list\n"
 

@@ -59,11 +59,7 @@ fn put_reason(reason: Reason, out: &mut [u8], at: usize) -> usize
             b": a 257th file; a list has at most 256 (rule 17)\n",
         ),
         Reason::Unended => append(out, at, b": a name without a zero byte behind it\n"),
-        Reason::TooLong => append(
-            out,
-            at,
-            b": too long for the edition, which every check calls BAD\n",
-        ),
+        Reason::TooLong => append(out, at, b": over 2^40 bytes, which every check calls BAD\n"),
         Reason::Unread(why) => lines::why_words(why, out, at),
         Reason::Unfit => append(out, at, b": it cannot be put in the list\n"),
     }

@@ -1,4 +1,4 @@
--- What the night's tests tell: a run has room for three bays where it has 85 words, `has_room`; what is known once they are passed,
+-- What the night's tests tell: a run has room for three bays where it has 82 words, `has_room`; what is known once they are passed,
 -- `fitting`; and the night's outcome out of those of its parts, `no-night` and `whole-night`.
 use Prim.Native.Nat.{ℕ, ◌≤◌, ◌<◌, min}
 use mathlib.Core.Bool.{true, false, not}
@@ -19,13 +19,13 @@ use Rattle.night.specs.Code.Held.{holding, Held, Fitting, Roomy}
 
 -- ---- room for three bays
 
-pub has_room : (n : ℕ) → 85 ≤ n → not (room_for 3 n) ≡ false
+pub has_room : (n : ℕ) → 82 ≤ n → not (room_for 3 n) ≡ false
 unfolding room_for holds
-has_room n h = rw (le-leb 85 n h)
+has_room n h = rw (le-leb 82 n h)
 
-pub no_room : (n : ℕ) → n < 85 → not (room_for 3 n) ≡ true
+pub no_room : (n : ℕ) → n < 82 → not (room_for 3 n) ≡ true
 unfolding room_for holds
-no_room n h = rw (lt-leb 85 n h)
+no_room n h = rw (lt-leb 82 n h)
 
 -- ---- the outcome
 

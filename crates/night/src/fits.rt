@@ -8,17 +8,17 @@ use answers::Answer;
 use dwsha2::limit::too_long;
 
 // SPEC, "Limits": the words of a table of three bays.
-const THREE_BAYS: usize = 85;
+const THREE_BAYS: usize = 82;
 
 // SPEC, "The saved record": where the words of a record begin; there are eight, half as many as in a block.
-const WORDS_AT: usize = 32;
+const WORDS_AT: usize = 24;
 
 // The bytes of the record of a message of which so many bytes came.
 pub(crate) fn record_length(edition: u64, count: usize) -> usize
     ensures { result ≡ record_room edition count }
 {
-    let size = fips::lookup::block_bytes(edition);
-    WORDS_AT + size / 2 + count % size
+    let tail = halfread::tail::tail_length(edition, count as u64);
+    WORDS_AT + fips::lookup::block_bytes(edition) / 2 + tail
 }
 
 // The first reason to refuse, by the lengths of what is lent and the size of the record.
@@ -46,13 +46,13 @@ pub(crate) fn refusal(
     if !fips::lookup::known(edition) {
         return Answer::NoSuchEdition;
     }
-    if too_long(edition, 0, 0, a) {
+    if too_long(edition, 0, a) {
         return Answer::TooLong;
     }
-    if too_long(edition, 0, 0, b) {
+    if too_long(edition, 0, b) {
         return Answer::TooLong;
     }
-    if too_long(edition, 0, 0, c) {
+    if too_long(edition, 0, c) {
         return Answer::TooLong;
     }
     if saved < size {

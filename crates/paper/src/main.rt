@@ -1,4 +1,4 @@
-// The samples of SPEC, "Samples", that are not marked P, run through the calls: what each answers, and the digests of three messages.
+// The samples of SPEC, "Samples", that are not marked P, run through the calls: what each answers, and the digest of the longest message.
 use answers::Answer;
 
 fn say(what: &[u8], answer: Answer) {
@@ -19,35 +19,35 @@ fn say_digest(digest: [u8; 32]) {
 
 // The shortest run for one bay and for 64, and a word less.
 fn layouts() {
-    let mut one = [7u64; 31];
-    let mut short = [7u64; 30];
-    let mut most = [7u64; 1732];
-    let mut nearly = [7u64; 1731];
-    say(b"N=1 in L=31", calls::lay_out(&mut one, 1));
-    say(b"N=1 in L=30", calls::lay_out(&mut short, 1));
-    say(b"N=64 in L=1732", calls::lay_out(&mut most, 64));
-    say(b"N=64 in L=1731", calls::lay_out(&mut nearly, 64));
+    let mut one = [7u64; 30];
+    let mut short = [7u64; 29];
+    let mut most = [7u64; 1668];
+    let mut nearly = [7u64; 1667];
+    say(b"N=1 in L=30", calls::lay_out(&mut one, 1));
+    say(b"N=1 in L=29", calls::lay_out(&mut short, 1));
+    say(b"N=64 in L=1668", calls::lay_out(&mut most, 64));
+    say(b"N=64 in L=1667", calls::lay_out(&mut nearly, 64));
 }
 
-// The record of 2^64 - 8 bits in edition 2: its tail wants one byte of a block. For its words the edition's starting words serve, and for
-// its tail zeros.
-fn longest() -> [u8; 127] {
-    let sizes = [2, 2, 2, 2, 8, 8, 2, 2, 4];
-    let values = [2, 8, 32, 64, 0, 0xffff_ffff_ffff_fff8, 63, 127, 0];
+// The record of 2^40 bytes in edition 2. They end at a block, so it has no tail; for its words the edition's starting words serve.
+fn longest() -> [u8; 56] {
+    let header = [
+        0, 2, 0, 8, 0, 24, 0, 56, 0, 0, 1, 0, 0, 0, 0, 0, 0, 0, 0, 56, 0, 0, 0, 0,
+    ];
     let start = dwsha2::starting::starting_words(2);
-    let mut record = [0u8; 127];
-    bigendian::rows::put_row(&mut record, &sizes, &values);
-    bigendian::put_words(&mut record[32..64], &start, 4);
+    let mut record = [0u8; 56];
+    slices::front::put_front(&mut record, &header);
+    bigendian::put_words(&mut record[24..56], &start, 4);
     record
 }
 
 // At the limit no byte more is taken, but closing bits are.
 fn limits() {
     let record = longest();
-    let mut table = [0u64; 31];
+    let mut table = [0u64; 30];
     let mut digest = [0u8; 32];
     say(b"lay out", calls::lay_out(&mut table, 1));
-    say(b"load 2^64 - 8 bits", calls::load(&mut table, 0, &record));
+    say(b"load c=2^40", calls::load(&mut table, 0, &record));
     say(b"add no bytes", calls::add(&mut table, 0, b""));
     say(b"add one byte", calls::add(&mut table, 0, b"a"));
     say(
@@ -57,35 +57,9 @@ fn limits() {
     say_digest(digest);
 }
 
-// The record of 2^40 bytes in edition 2, the most that the first form has. They end at a block, so it has no tail.
-fn longest_of_first_form() -> [u8; 56] {
-    let sizes = [2, 2, 2, 2, 8, 2, 2, 4];
-    let values = [2, 8, 24, 56, 0x100_0000_0000, 0, 56, 0];
-    let start = dwsha2::starting::starting_words(2);
-    let mut record = [0u8; 56];
-    bigendian::rows::put_row(&mut record, &sizes, &values);
-    bigendian::put_words(&mut record[24..56], &start, 4);
-    record
-}
-
-// It loads, and takes further bytes.
-fn first_form() {
-    let record = longest_of_first_form();
-    let mut table = [0u64; 31];
-    let mut digest = [0u8; 32];
-    say(b"lay out", calls::lay_out(&mut table, 1));
-    say(
-        b"load c=2^40, first form",
-        calls::load(&mut table, 0, &record),
-    );
-    say(b"add one byte", calls::add(&mut table, 0, b"a"));
-    say(b"close", calls::close(&mut table, 0, 0, 0, &mut digest));
-    say_digest(digest);
-}
-
 // A 1 behind the closing bits, an output too short by a byte, and both: then 8 goes before 9.
 fn closings() {
-    let mut table = [0u64; 31];
+    let mut table = [0u64; 30];
     let mut out = [0u8; 32];
     let mut short = [0u8; 31];
     say(b"lay out", calls::lay_out(&mut table, 1));
@@ -112,6 +86,5 @@ fn closings() {
 fn main() {
     layouts();
     limits();
-    first_form();
     closings();
 }

@@ -1,10 +1,10 @@
 -- Bytes are a record exactly where they keep the rules of SPEC, "The saved record": `form-record-rules`, of any form whose longest
 -- record can say its own length. How long the records of an edition are: `form-lengths`.
-use Prim.Native.Nat.{ℕ, ◌+◌, ◌-◌, ◌*◌, ◌/◌, ◌%◌, ◌^◌, ◌≤◌, ◌<◌}
+use Prim.Native.Nat.{ℕ, ◌+◌, ◌-◌, ◌*◌, ◌%◌, ◌^◌, ◌≤◌, ◌<◌}
 use mathlib.Core.Bool.{true, false}
 use mathlib.Core.List.{List, ◌∷◌, ◌++◌}
 use mathlib.Core.Path.{◌≡◌, refl, sym, ap, ap₂, ◌∙◌}
-use native.Mathlib.Nat.{mod-eq_of_lt, mod-lt, mul-div_cancel_left}
+use native.Mathlib.Nat.{mod-eq_of_lt}
 use native.Mathlib.Omega.{arith}
 use lib.Dec.{lit<}
 use lib.ListN.{length, get_or, take, drop, replicate, length-drop, length-replicate, take-append-drop}
@@ -24,17 +24,18 @@ use Rattle.fips.proofs.Sizes.{block-some, block_within, known_small}
 use Rattle.dwsha2.specs.Limit.{too_long}
 use Rattle.dwsha2.proofs.Limits.{within-limit}
 use Rattle.halfread.specs.declared.HalfRead.{HalfRead}
-use Rattle.halfread.specs.State.{tail_room, count, tail_length, pending, sound, Shaped}
+use Rattle.halfread.specs.State.{tail_room, tail_length, pending, sound, Shaped}
 use Rattle.halfread.specs.Steps.{opened, added}
-use Rattle.halfread.proofs.Adding.{count-added, added-shaped, added-sound}
+use Rattle.halfread.proofs.Adding.{added-shaped, added-sound}
 use Rattle.halfread.proofs.ByRules.{sound-rules, keeps-alike}
 use Rattle.halfread.proofs.Opening.{opened-shaped, opened-sound}
+use Rattle.halfread.proofs.Rules.{tail-lt}
 use Rattle.halfread.proofs.Tails.{length-padded, take-padded, get_or-padded}
-use Rattle.records.specs.Record.{Form, word_count, number_bytes, words_at, tail_at, units, header}
-use Rattle.records.specs.Record.{record_in, number_told, length_told, read_in, is_record_in}
+use Rattle.records.specs.Record.{Form, word_count, number_bytes, words_at, tail_at, header}
+use Rattle.records.specs.Record.{record_in, read_in, is_record_in}
 use Rattle.records.specs.Rules.{Rules, Lengths, edition_told, left_in, chain_in, tail_in, longest_of}
-use Rattle.records.proofs.Forms.{header-in-order, length-header, length-record, length-read, form-loaded-allowed}
-use Rattle.records.proofs.Forms.{form-loaded-sound, form-loaded-saves, length-record_in, record_in-bytes, Tells, form-saved-loads}
+use Rattle.records.proofs.Forms.{header-in-order, length-header, length-record, form-loaded-sound, form-loaded-saves}
+use Rattle.records.proofs.Forms.{length-record_in, record_in-bytes, form-saved-loads}
 
 -- ---- what the fields give, as numbers
 
@@ -48,7 +49,7 @@ module _ (f : Form) (bytes : List ℕ) where
   abbrev tail_from : ℕ
   tail_from = tail_at f (edition_told bytes)
 
-  pub eight : length H.words ≡ word_count
+  eight : length H.words ≡ word_count
   unfolding read_in
   eight = length-to_words word_count n (drop (words_at f) bytes)
 
@@ -56,15 +57,7 @@ module _ (f : Form) (bytes : List ℕ) where
   unfolding read_in
   wide = length-padded (drop tail_from bytes)
 
-  -- what is left of the length after whole blocks
-  left-read : tail_length H ≡ left_in f bytes
-  unfolding read_in
-  left-read = ap (λ (l : ℕ). l / 8 % block_bytes (width (edition_told bytes))) (length-read f bytes)
-
-  pub left_lt : left_in f bytes < block_bytes (width (edition_told bytes))
-  left_lt = mod-lt (length_told f bytes / 8) (block-some (edition_told bytes))
-
-  pub chain-read : (j : ℕ) → j < word_count → get_or H.words j 0 ≡ chain_in f bytes j
+  chain-read : (j : ℕ) → j < word_count → get_or H.words j 0 ≡ chain_in f bytes j
   unfolding read_in
   chain-read j p =
       get_or-to_words word_count n (drop (words_at f) bytes) j p ∙ ap (λ (l : List ℕ). number (take n l)) (drop-drop (j * n) (words_at f) bytes)
@@ -72,14 +65,13 @@ module _ (f : Form) (bytes : List ℕ) where
   tail-read : length bytes ≡ tail_from + left_in f bytes → (k : ℕ) → k < tail_room → get_or H.tail k 0 ≡ tail_in f bytes k
   unfolding read_in
   tail-read long k p =
-      get_or-padded (drop tail_from bytes) (simp length-drop (omega (arith, left_lt, block_within (edition_told bytes)))) k
+      get_or-padded (drop tail_from bytes) (simp length-drop (omega (arith, tail-lt H, block_within (edition_told bytes)))) k
       ∙ get_or-drop tail_from bytes k 0
 
   -- a record is as long as its fields say
-  pub record-long : is_record_in f bytes ≡ true → length bytes ≡ tail_from + left_in f bytes
+  record-long : is_record_in f bytes ≡ true → length bytes ≡ tail_from + left_in f bytes
   unfolding read_in
-  record-long is_one =
-      ap length (sym (form-loaded-saves f bytes is_one)) ∙ length-record f H eight wide ∙ ap (λ (k : ℕ). tail_from + k) left-read
+  record-long is_one = ap length (sym (form-loaded-saves f bytes is_one)) ∙ length-record f H eight wide
 
 -- ---- a record keeps the rules
 
@@ -107,26 +99,24 @@ module _ (f : Form) where
     unfolding header read_in
     form-record-keeps =
         let e = edition_told bytes in
-        let small = left_lt f bytes in
-        let left = left-read f bytes in
-        let whole = stands 6 (omega (arith, fits e, small, left)) ∙ ap (λ (k : ℕ). tail_at f e + k) left in
+        let small = tail-lt (H f bytes) in
+        let whole = stands 6 (omega (arith, fits e, small)) in
         record {
           counted = stands 1 (omega arith);
           words_from = stands 2 (omega (arith, fits e));
           tail_from = stands 3 (omega (arith, fits e, small));
-          tail_long = stands 5 (omega (arith, fits e, small, left)) ∙ left;
+          tail_long = stands 5 (omega (arith, fits e, small));
           whole_long = whole;
           zeros = stands 7 (pow-256-pos f.zero_bytes);
           lent = record-long f bytes is_one ∙ sym whole;
-          allowed = form-loaded-allowed f bytes is_one;
           keeps =
-              keeps-alike refl (length-read f bytes) (chain-read f bytes) (tail-read f bytes (record-long f bytes is_one))
+              keeps-alike refl refl (chain-read f bytes) (tail-read f bytes (record-long f bytes is_one))
               ((sound-rules (H f bytes) (eight f bytes) (wide f bytes)).0 (form-loaded-sound f bytes is_one));
         }
 
 -- ---- and bytes that keep them are a record
 
-module _ (f : Form) (some : 0 < f.unit) (bytes : List ℕ) (all : Bytes bytes) (r : Rules f bytes) where
+module _ (f : Form) (bytes : List ℕ) (all : Bytes bytes) (r : Rules f bytes) where
   sized : length bytes ≡ tail_from f bytes + left_in f bytes
   sized = r.lent ∙ r.whole_long
 
@@ -134,13 +124,7 @@ module _ (f : Form) (some : 0 < f.unit) (bytes : List ℕ) (all : Bytes bytes) (
   unfolding read_in
   sound-read =
       (sound-rules (H f bytes) (eight f bytes) (wide f bytes)).1
-      (keeps-alike refl (sym (length-read f bytes)) (λ j p. sym (chain-read f bytes j p)) (λ k p. sym (tail-read f bytes sized k p))
-      r.keeps)
-
-  -- the number told is the length as the form counts it
-  units-told : number_told f bytes ≡ units f (H f bytes)
-  units-told =
-      sym (ap (λ (l : ℕ). l / f.unit) (length-read f bytes) ∙ mul-div_cancel_left (number_told f bytes) some)
+      (keeps-alike refl refl (λ j p. sym (chain-read f bytes j p)) (λ k p. sym (tail-read f bytes sized k p)) r.keeps)
 
   header-reads : Reads (header f (H f bytes)) bytes
   unfolding header read_in read_row
@@ -149,9 +133,9 @@ module _ (f : Form) (some : 0 < f.unit) (bytes : List ℕ) (all : Bytes bytes) (
       (ap₂ ◌∷◌ r.counted
       (ap₂ ◌∷◌ r.words_from
       (ap₂ ◌∷◌ r.tail_from
-      (ap₂ ◌∷◌ units-told
-      (ap₂ ◌∷◌ (r.tail_long ∙ sym (left-read f bytes))
-      (ap₂ ◌∷◌ (r.whole_long ∙ ap (λ (k : ℕ). tail_from f bytes + k) (sym (left-read f bytes)))
+      (ap₂ ◌∷◌ refl
+      (ap₂ ◌∷◌ r.tail_long
+      (ap₂ ◌∷◌ r.whole_long
       (ap₂ ◌∷◌ r.zeros refl)))))))
 
   front-is : row_bytes (header f (H f bytes)) ≡ take (words_at f) bytes
@@ -166,11 +150,10 @@ module _ (f : Form) (some : 0 < f.unit) (bytes : List ℕ) (all : Bytes bytes) (
       from_words-to_words word_count (n f bytes) (drop (words_at f) bytes) (below-drop (words_at f) bytes all)
       (simp length-drop (omega (arith, sized)))
 
-  pub tail-is : pending (H f bytes) ≡ drop (tail_from f bytes) bytes
+  tail-is : pending (H f bytes) ≡ drop (tail_from f bytes) bytes
   unfolding read_in
   tail-is =
-      ap (λ (k : ℕ). take k (H f bytes).tail) (left-read f bytes)
-      ∙ take-padded (drop (tail_from f bytes) bytes) (left_in f bytes) (omega (arith, left_lt f bytes, block_within (edition_told bytes)))
+      take-padded (drop (tail_from f bytes) bytes) (left_in f bytes) (omega (arith, tail-lt (H f bytes), block_within (edition_told bytes)))
       (simp length-drop (omega (arith, sized)))
 
   made : record_in f (H f bytes) ≡ bytes
@@ -184,11 +167,11 @@ module _ (f : Form) (some : 0 < f.unit) (bytes : List ℕ) (all : Bytes bytes) (
 
   pub form-keeps-record : is_record_in f bytes ≡ true
   unfolding is_record_in
-  form-keeps-record = holds_on _ _ r.allowed ∙ holds_on _ _ sound-read ∙ holds-last _ ∙ eq-same (record_in f (H f bytes)) bytes made
+  form-keeps-record = holds_on _ _ sound-read ∙ holds-last _ ∙ eq-same (record_in f (H f bytes)) bytes made
 
-pub form-record-rules : (f : Form) → 0 < f.unit → ((e : ℕ) → longest_of f e < 256 ^ number_bytes) → (bytes : List ℕ) → Bytes bytes →
+pub form-record-rules : (f : Form) → ((e : ℕ) → longest_of f e < 256 ^ number_bytes) → (bytes : List ℕ) → Bytes bytes →
     (is_record_in f bytes ≡ true → Rules f bytes) × (Rules f bytes → is_record_in f bytes ≡ true)
-form-record-rules f some fits bytes all = (form-record-keeps f fits bytes, form-keeps-record f some bytes all)
+form-record-rules f fits bytes all = (form-record-keeps f fits bytes, form-keeps-record f bytes all)
 
 -- ---- how long a record is
 
@@ -198,14 +181,10 @@ module _ (f : Form) where
       (tail_at f e ≤ length bytes) × (length bytes ≤ longest_of f e)
   unfolding read_in
   inside e bytes is_one is_e =
-      rw (← is_e) (omega (arith, record-long f bytes is_one), omega (arith, record-long f bytes is_one, left_lt f bytes))
-
-  -- the form can tell of every state of an edition that has taken less than a block
-  abbrev pub TellsShort : ℕ → Type 0
-  TellsShort e = (h : HalfRead) → sound h ≡ true → Shaped h → h.edition ≡ e → count h < block_bytes (width e) → Tells f h
+      rw (← is_e) (omega (arith, record-long f bytes is_one), omega (arith, record-long f bytes is_one, tail-lt (H f bytes)))
 
   -- the record of a message of k bytes, fewer than a block
-  module _ (e k : ℕ) (tells : TellsShort e) (is_e : known e ≡ true) (short : k < block_bytes (width e)) where
+  module _ (room : 2 ^ 64 ≤ 256 ^ f.count_bytes) (e k : ℕ) (is_e : known e ≡ true) (short : k < block_bytes (width e)) where
     abbrev message : List ℕ
     message = replicate k 0
 
@@ -229,19 +208,16 @@ module _ (f : Form) where
     unfolding opened
     taken-sound = added-sound (opened e) begun-shaped message message-bytes (opened-sound e is_e) allowed
 
-    taken-count : count taken ≡ k
-    unfolding opened
-    taken-count = count-added (opened e) message ∙ omega (arith, length-replicate {A = ℕ} k 0)
-
     waits : tail_length taken ≡ k
     unfolding opened added
-    waits = ap (λ (m : ℕ). m % block_bytes (width e)) taken-count ∙ mod-eq_of_lt short
+    waits =
+        let size : 0 + length message ≡ k = omega (arith, length-replicate {A = ℕ} k 0) in
+        ap (λ (m : ℕ). m % block_bytes (width e)) size ∙ mod-eq_of_lt short
 
     met : (bytes : List ℕ) × Bytes bytes × (is_record_in f bytes ≡ true) × (edition_told bytes ≡ e) × (length bytes ≡ tail_at f e + k)
     unfolding opened added read_in
     met =
-        let told = tells taken taken-sound taken-shaped refl (omega (arith, taken-count)) in
-        let both = form-saved-loads f taken taken-sound taken-shaped told in (
+        let both = form-saved-loads f room taken taken-sound taken-shaped in (
           record_in f taken,
           record_in-bytes f taken taken-shaped,
           both.1,
@@ -249,11 +225,11 @@ module _ (f : Form) where
           length-record_in f taken taken-shaped ∙ ap (λ (m : ℕ). tail_at f e + m) waits,
         )
 
-  pub form-lengths : (e : ℕ) → TellsShort e → known e ≡ true → Lengths f e (tail_at f e) (longest_of f e)
-  form-lengths e tells is_e =
+  pub form-lengths : 2 ^ 64 ≤ 256 ^ f.count_bytes → (e : ℕ) → known e ≡ true → Lengths f e (tail_at f e) (longest_of f e)
+  form-lengths room e is_e =
       record {
         within = inside e;
         met = λ n p q.
-            let m = met e (n - tail_at f e) tells is_e (omega (arith, block-some e)) in
+            let m = met room e (n - tail_at f e) is_e (omega (arith, block-some e)) in
             (m.0, m.1, m.2, m.3, m.4 ∙ omega arith);
       }

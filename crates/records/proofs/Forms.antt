@@ -1,13 +1,11 @@
--- Records of any form: SPEC, "The saved record". `form-saved-loads`: a sound state's record, where the form can tell of it, is one of its
--- form and reads as that state. `form-loaded-saves`: bytes that are a record are the record of what they read as. `form-one-record`: so no
--- state has two in one form.
-use Prim.Native.Nat.{ℕ, ◌+◌, ◌*◌, ◌/◌, ◌%◌, ◌^◌, ◌≤◌, ◌<◌}
+-- Records of any form: SPEC, "The saved record". `form-saved-loads`: a sound state's record is one of its form and reads as that state.
+-- `form-loaded-saves`: bytes that are a record are the record of what they read as. `form-one-record`: so no state has two in one form.
+use Prim.Native.Nat.{ℕ, ◌+◌, ◌*◌, ◌^◌, ◌≤◌}
 use mathlib.Core.Bool.{true}
 use mathlib.Core.List.{List, ◌++◌}
 use mathlib.Core.Path.{◌≡◌, refl, sym, ap, ap₂, subst, ◌∙◌}
-use native.Mathlib.Nat.{pow-le-pow_right, lt_of_lt_of_le, mul-lt-mul_of_pos_left, div-lt_iff_lt-mul, mod-lt}
+use native.Mathlib.Nat.{pow-le-pow_right, lt_of_lt_of_le}
 use native.Mathlib.Omega.{arith}
-use lib.Dec.{lit<}
 use lib.ListN.{length, drop, length-append}
 use lib.Seq.{drop_at, drop-drop}
 use Rattle.slices.specs.Below.{Below, Bytes}
@@ -20,14 +18,13 @@ use Rattle.bigendian.proofs.RowLaws.{length-row, row-bytes, field_lt, field-read
 use Rattle.bigendian.proofs.Words.{length-from_words, from_words-bytes, length-to_words, to_words-below, to_words-back}
 use Rattle.fips.specs.Editions.{width}
 use Rattle.fips.proofs.Sizes.{known_small, bytes-within}
-use Rattle.dwsha2.proofs.Limits.{both_words}
 use Rattle.halfread.specs.declared.HalfRead.{HalfRead}
-use Rattle.halfread.specs.State.{tail_room, length_of, tail_length, pending, padded, sound, Shaped}
+use Rattle.halfread.specs.State.{tail_room, tail_length, pending, padded, sound, Shaped}
 use Rattle.halfread.proofs.Fields.{same-state}
 use Rattle.halfread.proofs.Soundness.{Sound, sound-facts}
 use Rattle.halfread.proofs.Tails.{length-pending, length-padded, padded-bytes}
-use Rattle.records.specs.Record.{Form, word_count, number_bytes, edition_at, words_field_at, length_at, words_at, tail_at, length_in}
-use Rattle.records.specs.Record.{units, header, record_in, number_told, length_told, read_in, is_record_in}
+use Rattle.records.specs.Record.{Form, word_count, number_bytes, edition_at, count_at, words_at, tail_at, length_in, header}
+use Rattle.records.specs.Record.{record_in, read_in, is_record_in}
 
 -- ---- what a record looks like
 
@@ -63,11 +60,6 @@ module _ (f : Form) (h : HalfRead) where
   pub length-record_in : Shaped h → length (record_in f h) ≡ length_in f h
   length-record_in s = length-record s.eight s.wide
 
-  -- where it says that the words begin
-  pub words-field : words_at f < 256 ^ number_bytes → field_in (record_in f h) words_field_at number_bytes ≡ words_at f
-  unfolding record_in header
-  words-field fits = field-read (header f h) (W ++ pending h) 2 refl fits
-
   pub record_in-bytes : Shaped h → Bytes (record_in f h)
   unfolding record_in
   record_in-bytes s =
@@ -77,25 +69,17 @@ module _ (f : Form) (h : HalfRead) where
 -- ---- loading any bytes
 
 module _ (f : Form) (bytes : List ℕ) where
-  -- the length read is the length told
-  pub length-read : length_of (read_in f bytes) ≡ length_told f bytes
+  -- where the count's field holds no more than a state's count
+  pub form-loaded-shaped : 256 ^ f.count_bytes ≤ 2 ^ 64 → Bytes bytes → Shaped (read_in f bytes)
   unfolding read_in
-  length-read = both_words (length_told f bytes)
-
-  -- where the field tells of no more than two words hold
-  pub form-loaded-shaped : 0 < f.unit → f.unit * 256 ^ f.length_bytes ≤ 2 ^ 128 → Bytes bytes → Shaped (read_in f bytes)
-  unfolding read_in
-  form-loaded-shaped some holds-few all =
+  form-loaded-shaped holds-few all =
       let e = field_in bytes edition_at number_bytes in
-      let told : length_told f bytes < 2 ^ 128 =
-      lt_of_lt_of_le (mul-lt-mul_of_pos_left (field_lt bytes length_at f.length_bytes all) some) holds-few in
       let n = (width e).bytes in
       record {
         eight = length-to_words word_count n (drop (words_at f) bytes);
         wide = length-padded (drop (tail_at f e) bytes);
         number = omega (arith, field_lt bytes edition_at number_bytes all);
-        upper = (div-lt_iff_lt-mul {k = 2 ^ 64} {x = length_told f bytes} {y = 2 ^ 64} (lit< tt)).1 told;
-        lower = mod-lt (length_told f bytes) (lit< tt);
+        counted = lt_of_lt_of_le (field_lt bytes count_at f.count_bytes all) holds-few;
         fitting =
             below_more (to_words word_count n (drop (words_at f) bytes)) (pow-le-pow_right {n = 256} (omega arith) (bytes-within e))
             (to_words-below word_count n (drop (words_at f) bytes) (below-drop (words_at f) bytes all));
@@ -103,30 +87,20 @@ module _ (f : Form) (bytes : List ℕ) where
       }
 
   module _ (is_one : is_record_in f bytes ≡ true) where
-    pub form-loaded-allowed : f.allows (field_in bytes edition_at number_bytes) (number_told f bytes) ≡ true
-    unfolding is_record_in
-    form-loaded-allowed = holds_at _ is_one 0
-
     pub form-loaded-sound : sound (read_in f bytes) ≡ true
     unfolding is_record_in
-    form-loaded-sound = holds_at _ is_one 1
+    form-loaded-sound = holds_at _ is_one 0
 
     pub form-loaded-saves : record_in f (read_in f bytes) ≡ bytes
     unfolding is_record_in
-    form-loaded-saves = same-eq (record_in f (read_in f bytes)) bytes (holds_at _ is_one 2)
+    form-loaded-saves = same-eq (record_in f (read_in f bytes)) bytes (holds_at _ is_one 1)
 
 pub form-one-record : (f : Form) (a b : List ℕ) → is_record_in f a ≡ true → is_record_in f b ≡ true → read_in f a ≡ read_in f b → a ≡ b
 form-one-record f a b p q e = sym (form-loaded-saves f a p) ∙ ap (record_in f) e ∙ form-loaded-saves f b q
 
--- ---- loading a record
+-- ---- loading a record, where the count's field has room for every count of a state
 
--- a form can tell of a state: its length finds room in the field and loses no bit, and the form has such records
-pub record Tells (f : Form) (h : HalfRead) : Type 0 where
-  pub room : units f h < 256 ^ f.length_bytes
-  pub exact : f.unit * units f h ≡ length_of h
-  pub allowed : f.allows h.edition (units f h) ≡ true
-
-module _ (f : Form) (h : HalfRead) (is_sound : sound h ≡ true) (s : Shaped h) (t : Tells f h) where
+module _ (f : Form) (room : 2 ^ 64 ≤ 256 ^ f.count_bytes) (h : HalfRead) (is_sound : sound h ≡ true) (s : Shaped h) where
   facts : Sound h
   facts = sound-facts h is_sound s
 
@@ -144,18 +118,9 @@ module _ (f : Form) (h : HalfRead) (is_sound : sound h ≡ true) (s : Shaped h) 
   unfolding R record_in header
   edition-read = field-read (header f h) behind 0 refl (omega (arith, known_small h.edition facts.known))
 
-  number_read : number_told f R ≡ units f h
+  count-read : field_in R count_at f.count_bytes ≡ h.count
   unfolding R record_in header
-  number_read = field-read (header f h) behind 4 refl t.room
-
-  told-read : length_told f R ≡ length_of h
-  told-read = ap (λ (n : ℕ). f.unit * n) number_read ∙ t.exact
-
-  high_read : length_told f R / 2 ^ 64 ≡ h.high
-  high_read = ap (λ (l : ℕ). l / 2 ^ 64) told-read ∙ omega (arith, s.lower)
-
-  low_read : length_told f R % 2 ^ 64 ≡ h.low
-  low_read = ap (λ (l : ℕ). l % 2 ^ 64) told-read ∙ omega (arith, s.lower)
+  count-read = field-read (header f h) behind 4 refl (lt_of_lt_of_le s.counted room)
 
   words-read : to_words word_count (B f h) (drop (words_at f) R) ≡ h.words
   words-read =
@@ -175,16 +140,10 @@ module _ (f : Form) (h : HalfRead) (is_sound : sound h ≡ true) (s : Shaped h) 
   reads : read_in f R ≡ h
   unfolding read_in
   reads =
-      same-state (read_in f R) h edition-read high_read low_read
+      same-state (read_in f R) h edition-read count-read
       (ap (λ (e : ℕ). to_words word_count (width e).bytes (drop (words_at f) R)) edition-read ∙ words-read)
       (ap (λ (e : ℕ). padded (drop (tail_at f e) R)) edition-read ∙ tail-read)
 
   pub form-saved-loads : (read_in f (record_in f h) ≡ h) × (is_record_in f (record_in f h) ≡ true)
   unfolding R is_record_in
-  form-saved-loads = (
-    reads,
-    holds_on _ _ (ap₂ f.allows edition-read number_read ∙ t.allowed)
-        ∙ holds_on _ _ (ap sound reads ∙ is_sound)
-        ∙ holds-last _
-        ∙ rw reads (same_refl (record_in f h)),
-  )
+  form-saved-loads = (reads, holds_on _ _ (ap sound reads ∙ is_sound) ∙ holds-last _ ∙ rw reads (same_refl (record_in f h)))

@@ -3,7 +3,6 @@ pub mod Forms
 pub mod Records
 pub mod ByRules
 pub mod SavedRules
-pub mod OldForm
 pub mod Written
 pub mod ReadFields
 pub mod Loading

@@ -1,4 +1,3 @@
 -- The saved record of a half-read message.
 pub mod Record
 pub mod Rules
-pub mod OldRules

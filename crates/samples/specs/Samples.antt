@@ -11,7 +11,7 @@ use Rattle.fips.specs.Message.{message, bytes_in}
 use Rattle.fips.specs.Editions.{digest}
 use Rattle.dwsha2.specs.Closing.{closing_fits}
 use Rattle.halfread.specs.Steps.{opened, added}
-use Rattle.records.specs.Record.{record_of, is_record, loaded}
+use Rattle.records.specs.Record.{record_of}
 use Rattle.lists.specs.Layout.{list_bytes}
 use Rattle.treerule.specs.Root.{leaf}
 use Rattle.treerule.specs.Split.{split}
@@ -40,27 +40,8 @@ abc = message (ascii "abc") 0 0
 abc_digest : ℕ
 abc_digest = 0xba7816bf8f01cfea414140de5dae2223b00361a396177a9cb410ff61f20015ad
 
--- behind the header of its record: the starting words of edition 2 or 4, and the tail
-behind2 : List ℕ
-behind2 = be 32 0x6a09e667bb67ae853c6ef372a54ff53a510e527f9b05688c1f83d9ab5be0cd19 ++ (0x61 ∷ 0x62 ∷ 0x63 ∷ [])
-
-behind4 : List ℕ
-behind4 =
-    be 32 0x6a09e667f3bcc908bb67ae8584caa73b3c6ef372fe94f82ba54ff53a5f1d36f1
-    ++ be 32 0x510e527fade682d19b05688c2b3e6c1f1f83d9abfb41bd6b5be0cd19137e2179
-    ++ (0x61 ∷ 0x62 ∷ 0x63 ∷ [])
-
--- and the records as they were before request 06
-old2 : List ℕ
-unfolding behind2
-old2 = be 8 0x0002000800180038 ++ be 8 0x03 ++ be 8 0x0003003b00000000 ++ behind2
-
-old4 : List ℕ
-unfolding behind4
-old4 = be 8 0x0004000800180058 ++ be 8 0x03 ++ be 8 0x0003005b00000000 ++ behind4
-
 unfoldable pub table : List Sample
-unfolding blocks_of abc abc_digest behind2 behind4 old2 old4
+unfolding blocks_of abc abc_digest
 table =
     -- three short messages, padded
     (bytes_in (pad w32 []) is 0x80 ∷ replicate 63 0)
@@ -80,13 +61,15 @@ table =
     ∷ (map digit (closing_fits 0x68 5 ∷ closing_fits 0xfe 7 ∷ closing_fits 0x00 0 ∷ []) is 1 ∷ 1 ∷ 1 ∷ [])
     ∷ (map digit (closing_fits 0x68 4 ∷ closing_fits 0xff 7 ∷ closing_fits 0x80 0 ∷ closing_fits 0x00 8 ∷ []) is 0 ∷ 0 ∷ 0 ∷ 0 ∷ [])
     -- a saved record at words of 32 bits and one at words of 64, with the standard's starting words
-    ∷ (record_of (added (opened 2) (ascii "abc")) is be 8 0x0002000800200040 ++ be 16 0x18 ++ be 8 0x0003004300000000 ++ behind2)
-    ∷ (record_of (added (opened 4) (ascii "abc")) is be 8 0x0004000800200060 ++ be 16 0x18 ++ be 8 0x0003006300000000 ++ behind4)
-    -- and those of the form before: they are records, and what they load is saved as above
-    ∷ (digit (is_record old2) ∷ record_of (loaded old2)
-    is 1 ∷ be 8 0x0002000800200040 ++ be 16 0x18 ++ be 8 0x0003004300000000 ++ behind2)
-    ∷ (digit (is_record old4) ∷ record_of (loaded old4)
-    is 1 ∷ be 8 0x0004000800200060 ++ be 16 0x18 ++ be 8 0x0003006300000000 ++ behind4)
+    ∷ (record_of (added (opened 2) (ascii "abc"))
+    is be 8 0x0002000800180038 ++ be 8 0x03 ++ be 8 0x0003003b00000000
+    ++ be 32 0x6a09e667bb67ae853c6ef372a54ff53a510e527f9b05688c1f83d9ab5be0cd19
+    ++ (0x61 ∷ 0x62 ∷ 0x63 ∷ []))
+    ∷ (record_of (added (opened 4) (ascii "abc"))
+    is be 8 0x0004000800180058 ++ be 8 0x03 ++ be 8 0x0003005b00000000
+    ++ be 32 0x6a09e667f3bcc908bb67ae8584caa73b3c6ef372fe94f82ba54ff53a5f1d36f1
+    ++ be 32 0x510e527fade682d19b05688c2b3e6c1f1f83d9abfb41bd6b5be0cd19137e2179
+    ++ (0x61 ∷ 0x62 ∷ 0x63 ∷ []))
     -- a list without entries, and one of one entry, which has the digest of abc
     ∷ (list_bytes (record { edition = 2; pairs = [] }) is be 4 0x00020000 ++ be 4 0x10 ++ be 4 0x10 ++ be 4 0x10)
     ∷ (list_bytes (record { edition = 2; pairs = record { name = ascii "fleet.cfg"; digest = be 32 abc_digest } ∷ [] })

@@ -1,6 +1,6 @@
 -- `records::save` meets its contract: each refusal by its test, and the record at the front. Assumes nothing.
 use Prim.Native.Nat.{ℕ}
-use mathlib.Core.Bool.{true, false}
+use mathlib.Core.Bool.{true}
 use mathlib.Core.List.{List}
 use mathlib.Core.Path.{◌≡◌, refl, sym, ap, ◌∙◌}
 use native.Mathlib.Omega.{arith}
@@ -12,7 +12,7 @@ use Rattle.answers.specs.Judged.{first}
 use Rattle.answers.proofs.Outcome.{refused, done}
 use Rattle.slices.specs.AtFront.{at_front}
 use Rattle.halfread.specs.State.{sound}
-use Rattle.records.specs.Record.{save_tests}
+use Rattle.records.specs.Record.{save_tests, newest}
 use Rattle.records.proofs.Written.{length_in-within, longest}
 use Rattle.records.proofs.save.Statement.{statement}
 use Rattle.records.proofs.save.Tie as tie
@@ -31,8 +31,8 @@ returns-2 c = refused (rw (is-sound c.before.before, ← c.before.record-length.
 array-share-prefix-bytes : tie.Need-array-share-prefix-bytes
 array-share-prefix-bytes c =
     let n = c.before.before.before in
-    let long : length c.before.record_of.result ≡ longest = search rules in
-    omega (arith, n.record-length.ensures, length_in-within false n.before.before.before.before.args.half)
+    let long : length c.before.record_of.result ≡ longest newest = search rules in
+    omega (arith, n.record-length.ensures, length_in-within newest n.before.before.before.before.args.half)
 
 returns-3 : tie.Need-returns-3
 unfolding save_tests first

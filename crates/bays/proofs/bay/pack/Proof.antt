@@ -1,4 +1,4 @@
--- `bays::bay::pack` meets its contract: edition and length, the chaining words, the tail's words. Assumes nothing.
+-- `bays::bay::pack` meets its contract: edition and count, the chaining words, the tail's words. Assumes nothing.
 use Prim.Native.Nat.{ℕ}
 use mathlib.Core.Path.{◌≡◌, sym, ap, ◌∙◌}
 use native.Mathlib.Omega.{arith}
@@ -23,7 +23,7 @@ sub-get-words c =
     let eight : length h.words ≡ chain_words = search rules in
     omega (
       arith,
-      half-long s.args.bay.now h.edition h.high h.low h.words k.put-words-front.new.0 s.requires eight
+      half-long s.args.bay.now h.edition h.count h.words k.put-words-front.new.0 s.requires eight
           k.put-words-front.ensures,
     )
 
@@ -38,8 +38,7 @@ returns c =
     let h = s.args.half in
     let eight : length h.words ≡ chain_words = search rules in
     let bytes : (i : ℕ) → Fits u8 (get_or h.tail i 0) = λ i. search rules in
-    packed s.args.bay.now h.edition h.high h.low h.words k.put-words-front.new.0 s.requires eight
-    k.put-words-front.ensures
+    packed s.args.bay.now h.edition h.count h.words k.put-words-front.new.0 s.requires eight k.put-words-front.ensures
     h.tail c.before.before.get-words.new.0 (λ i. (bytes i).fits) c.before.before.get-words.ensures
 
 same_length : tie.Need-same-length
@@ -51,6 +50,6 @@ same_length c =
 pub pack-spec : {M : Type 1} → statement M
 pack-spec =
     tie.close
-    (tie.spec (λ c. search rules) (λ c. search rules) (λ c. search rules) (λ c. search rules) (λ c. search rules) part-put-words-front-end
+    (tie.spec (λ c. search rules) (λ c. search rules) (λ c. search rules) (λ c. search rules) part-put-words-front-end
     (λ c. search rules) (λ c κs. search rules) sub-get-words part-get-words-start
     (λ c. search rules) (λ c. search rules) (λ c κs. search rules) same_length returns)

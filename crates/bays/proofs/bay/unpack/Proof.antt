@@ -7,15 +7,15 @@ use Rattle.bays.proofs.bay.unpack.Tie as tie
 
 returns : tie.Need-returns
 returns c =
-    let k = c.before.before.before.before.before.before.before.before in
+    let k = c.before.before.before.before.before.before.before in
     let s = k.before.before.before.before in
     sym
     (unpacked s.args.bay.now _ _ _ _ s.requires (search rules) (search rules) k.put-words-front.ensures
-    c.before.before.before.before.put-words.ensures)
+    c.before.before.before.put-words.ensures)
 
 pub unpack-spec : {M : Type 1} → statement M
 unpack-spec =
     tie.close
     (tie.spec (λ c. search rules) (λ c. search rules) (λ c. search rules) (λ c. search rules) (λ c κs. search rules)
     (λ c. search rules) (λ c. search rules) (λ c. search rules) (λ c. search rules) (λ c κs. search rules)
-    (λ c. search rules) (λ c. search rules) (λ c. search rules) returns)
+    (λ c. search rules) (λ c. search rules) returns)

@@ -1,5 +1,10 @@
 -- `dwsha2::closing::closing_byte` meets its contract: the sum is the definition's, which is below 256. Assumes nothing.
-use Rattle.std.proofs.Common.{◌≡◌, ℕ, ◌+◌, ◌-◌, ◌*◌, ◌/◌, ◌%◌, ◌^◌, ◌<◌, sym, subst, div-mul-le_self, arith, pow_pos, rules}
+use Prim.Native.Nat.{ℕ, ◌+◌, ◌-◌, ◌*◌, ◌/◌, ◌%◌, ◌^◌, ◌<◌}
+use mathlib.Core.Path.{◌≡◌, sym, subst}
+use native.Mathlib.Nat.{div-mul-le_self}
+use native.Mathlib.Omega.{arith}
+use lib.Pow.{pow_pos}
+use borrow.Author.Rules.{rules}
 use Rattle.fips.specs.Code.ByteForm.{closing_byte}
 use Rattle.fips.proofs.ByteForm.{closing-lt}
 use Rattle.dwsha2.proofs.closing.closing_byte.Statement.{statement}

@@ -1,6 +1,9 @@
 -- `dwsha2::closing::closing_fits` meets its contract: its two tests are the definition's. Assumes nothing.
-use Rattle.std.proofs.Common.{sym, arith, pow_pos, rules, le-leb}
-use borrow.Author.Tests.{lt-leb}
+use mathlib.Core.Path.{sym}
+use native.Mathlib.Omega.{arith}
+use lib.Pow.{pow_pos}
+use borrow.Author.Rules.{rules}
+use borrow.Author.Tests.{le-leb, lt-leb}
 use Rattle.dwsha2.specs.Closing.{closing_fits}
 use Rattle.dwsha2.proofs.closing.closing_fits.Statement.{statement}
 use Rattle.dwsha2.proofs.closing.closing_fits.Tie as tie

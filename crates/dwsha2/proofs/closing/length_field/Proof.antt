@@ -1,18 +1,23 @@
 -- `dwsha2::closing::length_field` meets its contract: two words fill the field. Assumes nothing.
-use Rattle.std.proofs.Common.{◌+◌, ◌*◌, ◌/◌, ◌%◌, [], ◌∷◌, replicate, refl, ◌∙◌, arith, rules}
+use mathlib.Core.List.{[], ◌∷◌}
+use mathlib.Core.Path.{refl, ◌∙◌}
+use Prim.Native.Nat.{◌+◌, ◌*◌, ◌/◌, ◌%◌, ◌^◌}
+use native.Mathlib.Omega.{arith}
+use lib.ListN.{replicate}
+use borrow.Author.Rules.{rules}
 use Rattle.bigendian.proofs.Words.{with_words-all}
-use Rattle.dwsha2.proofs.LengthField.{length-words}
+use Rattle.dwsha2.proofs.Length.{length-words}
 use Rattle.dwsha2.proofs.closing.length_field.Statement.{statement}
 use Rattle.dwsha2.proofs.closing.length_field.Tie as tie
 
 returns : tie.Need-returns
 returns c =
     let a = c.before.before.before.before.args in
-    let low = a.low in
+    let n = a.count in
     let b = a.bits % 8 in
     c.before.put-words.ensures
-    ∙ with_words-all 8 (a.high ∷ (low / 8 * 8 + b) ∷ []) (replicate 16 0) (omega arith) refl
-    ∙ length-words a.high low b (omega arith) (omega arith)
+    ∙ with_words-all 8 (n / 2 ^ 61 ∷ (n % 2 ^ 61 * 8 + b) ∷ []) (replicate 16 0) (omega arith) refl
+    ∙ length-words n b (omega arith)
 
 pub length-field-spec : {M : Type 1} → statement M
 length-field-spec =

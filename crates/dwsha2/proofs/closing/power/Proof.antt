@@ -1,5 +1,10 @@
 -- `dwsha2::closing::power` meets its contract: a shift of 1 loses nothing. Assumes nothing.
-use Rattle.std.proofs.Common.{◌^◌, ◌∙◌, one-mul, arith, shl_exact, rules}
+use mathlib.Core.Path.{◌∙◌}
+use native.Mathlib.Nat.{one-mul}
+use native.Mathlib.Omega.{arith}
+use Prim.Native.Nat.{◌^◌}
+use lib.Pow.{shl_exact}
+use borrow.Author.Rules.{rules}
 use Rattle.dwsha2.proofs.closing.power.Statement.{statement}
 use Rattle.dwsha2.proofs.closing.power.Tie as tie
 

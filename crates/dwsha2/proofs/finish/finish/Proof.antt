@@ -1,8 +1,12 @@
 -- `dwsha2::finish::finish` meets its contract: the tail's whole blocks are absorbed, then the last bytes of its rest. Assumes nothing.
-use Rattle.std.proofs.Common.{◌≡◌, ◌%◌, ◌<◌, length, sym, refl, mod-lt, arith, length-drop, length-take, length-take-le, rules}
-use native.Mathlib.Nat.{mod-le}
+use Prim.Native.Nat.{◌%◌, ◌<◌}
+use mathlib.Core.Path.{◌≡◌, refl, sym}
+use native.Mathlib.Nat.{mod-lt, mod-le}
+use native.Mathlib.Omega.{arith}
+use lib.ListN.{length, length-take, length-drop}
+use lib.Seq.{length-take-le}
+use borrow.Author.Rules.{rules}
 use Rattle.fips.proofs.Sizes.{thin-bytes}
-use Rattle.dwsha2.specs.Length.{whole_bytes}
 use Rattle.dwsha2.proofs.Last.{last-room}
 use Rattle.dwsha2.proofs.Finished.{finish-law}
 use Rattle.dwsha2.proofs.finish.finish.Statement.{statement}
@@ -47,8 +51,7 @@ slice-aggregate-absorb c = sym (length-take-le _ _ (array-share-prefix-last c.be
 returns : tie.Need-returns
 returns c =
     let s = c.before.before.before.before.before.before.before.before.before in
-    finish-law s.args.edition s.args.words s.args.tail.now
-    (whole_bytes s.args.high s.args.low) s.args.closing s.args.bits
+    finish-law s.args.edition s.args.words s.args.tail.now s.args.count s.args.closing s.args.bits
     c.before.before.before.before.last-bytes.result
     c.before.before.before.before.before.before.before.narrow.ensures
     c.before.before.before.before.before.before.block_size.ensures

@@ -1,8 +1,11 @@
 -- `dwsha2::finish::last_bytes` meets its contract: the length goes to its place behind the zero bytes. Assumes nothing.
-use Rattle.std.proofs.Common.{◌≡◌, ◌+◌, ◌-◌, ◌*◌, ◌/◌, ◌%◌, length, take, drop, refl, ◌∙◌, arith, length-drop, length-take, rules}
+use Prim.Native.Nat.{◌+◌, ◌-◌, ◌*◌, ◌/◌, ◌%◌}
+use mathlib.Core.Path.{◌≡◌, refl, ◌∙◌}
+use native.Mathlib.Omega.{arith}
+use lib.ListN.{length, take, drop, length-take, length-drop}
+use borrow.Author.Rules.{rules}
 use Rattle.fips.specs.Sizes.{width_of}
 use Rattle.fips.proofs.Sizes.{thin-bytes}
-use Rattle.dwsha2.specs.Length.{whole_bytes}
 use Rattle.dwsha2.proofs.Last.{last-room, last-law, field-law}
 use Rattle.dwsha2.proofs.finish.last_bytes.Statement.{statement}
 use Rattle.dwsha2.proofs.finish.last_bytes.Tie as tie
@@ -24,8 +27,7 @@ returns c =
     let s = c.before.before.before.before.before.before.before.before.before.before in
     let p = width_of s.args.thin in
     let tail = s.args.tail.now in
-    let n = whole_bytes s.args.high s.args.low in
-    let l = 8 * n + s.args.bits % 8 in
+    let l = 8 * s.args.count + s.args.bits % 8 in
     let buffer = c.before.before.before.before.before.before.with-closing in
     let size = c.before.before.before.before.before.before.before.block_size in
     let end = c.before.before.before.before.before.before.before.before.last-end in
@@ -37,7 +39,7 @@ returns c =
     let part : length (take (end.result - (end.result - size.result / 8)) (drop (end.result - size.result / 8) buffer.result))
     ≡ 2 * p.bytes =
     simp (length-take, length-drop) (omega (arith, end.ensures)) in
-    last-law p n tail s.args.closing (s.args.bits % 8) buffer.result c.before.put_front.new.0 _
+    last-law p s.args.count tail s.args.closing (s.args.bits % 8) buffer.result c.before.put_front.new.0 _
     (end.result - size.result / 8) buffer.ensures
     (field-law p l _ (16 - size.result / 8) (16 - (16 - size.result / 8)) c.before.put_front.ensures
     c.before.before.before.before.before.length-field.ensures

@@ -1,5 +1,8 @@
 -- `dwsha2::finish::last_end` meets its contract: one block or two. Assumes nothing.
-use Rattle.std.proofs.Common.{ℕ, ◌*◌, sym, ap, ◌∙◌, arith, rules}
+use Prim.Native.Nat.{ℕ, ◌*◌}
+use mathlib.Core.Path.{sym, ap, ◌∙◌}
+use native.Mathlib.Omega.{arith}
+use borrow.Author.Rules.{rules}
 use Rattle.fips.specs.Sizes.{width_of}
 use Rattle.fips.proofs.Sizes.{thin-bytes}
 use Rattle.dwsha2.proofs.Last.{last_one, last-two}

@@ -1,5 +1,10 @@
 -- `dwsha2::finish::with_closing` meets its contract: the tail at the front of zeros, and the closing byte behind it. Assumes nothing.
-use Rattle.std.proofs.Common.{ℕ, List, length, set, ◌∙◌, ap₂, arith, rules}
+use Prim.Native.Nat.{ℕ}
+use mathlib.Core.List.{List}
+use mathlib.Core.Path.{ap₂, ◌∙◌}
+use native.Mathlib.Omega.{arith}
+use lib.ListN.{length, set}
+use borrow.Author.Rules.{rules}
 use Rattle.dwsha2.proofs.Last.{tail-and-byte}
 use Rattle.dwsha2.proofs.finish.with_closing.Statement.{statement}
 use Rattle.dwsha2.proofs.finish.with_closing.Tie as tie

@@ -1,16 +1,20 @@
 -- `dwsha2::hash::hash` meets its contract: each refusal by its test, and the digest by `digest-at-once`. Assumes nothing.
-use Rattle.std.proofs.Common.{◌≡◌, ℕ, List, length, get_or, sym, refl, ap, ◌∙◌, ap₂, w8 as u8, Fits, rules, le-ltb, lt-ltb}
-use borrow.Author.Tests.{not-true, not-false}
+use Prim.Native.Nat.{ℕ}
+use mathlib.Core.List.{List}
+use mathlib.Core.Path.{◌≡◌, refl, sym, ap, ◌∙◌}
+use mir.Syntax.{w8 as u8}
+use mir.Val.{Fits}
+use lib.ListN.{length, get_or}
+use borrow.Author.Rules.{rules}
+use borrow.Author.Tests.{lt-ltb, le-ltb, not-true, not-false}
 use Rattle.answers.specs.Judged.{first}
 use Rattle.answers.proofs.Outcome.{refused, done}
 use Rattle.fips.specs.Editions.{start}
 use Rattle.slices.specs.AtFront.{at_front}
 use Rattle.dwsha2.specs.Hash.{hash_tests, hashed}
-use Rattle.dwsha2.specs.Length.{whole_bytes}
 use Rattle.dwsha2.specs.Code.Hashing.{finished, digest_from}
 use Rattle.fips.proofs.Sizes.{size-unknown, size-known}
 use Rattle.dwsha2.proofs.AtOnce.{closing-few, digest-at-once}
-use Rattle.dwsha2.proofs.Limits.{length-of}
 use Rattle.dwsha2.proofs.hash.hash.Statement.{statement}
 use Rattle.dwsha2.proofs.hash.hash.Tie as tie
 
@@ -60,8 +64,7 @@ returns-5 : tie.Need-returns-5
 unfolding hash_tests first hashed
 returns-5 c =
     let w = c.before.before in
-    let l = w.before.before.before in
-    let e4 = l.before.before in
+    let e4 = w.before.before.before.before in
     let f = e4.before.before in
     let d = f.before.before.before.before in
     let s = d.before.before.before in
@@ -73,8 +76,7 @@ returns-5 c =
     let byte : (i : ℕ) → Fits u8 (get_or m i 0) = λ i. d.before.before.shared-slice-known.given i in
     let words : w.before.before.finish.result ≡ finished e (start e) (length m) m x b =
     w.before.before.finish.ensures
-    ∙ ap₂ (λ (H : List ℕ) (n : ℕ). finished e H n m x b) l.before.starting-words.ensures
-    (ap₂ whole_bytes l.of-bytes.ensures.0 l.of-bytes.ensures.1 ∙ length-of (length m))
+    ∙ ap (λ (H : List ℕ). finished e H (length m) m x b) w.before.before.before.starting-words.ensures
     in
     done
     (rw (
@@ -92,4 +94,4 @@ pub hash-spec : {M : Type 1} → statement M
 hash-spec =
     tie.close
     (tie.spec (λ c κs. search rules) returns (λ c κs. search rules) returns-2 (λ c κs. search rules) returns-3 returns-4
-    (λ c κs. search rules) (λ c κs. search rules) (λ c κs. search rules) (λ c κs. search rules) (λ c. search rules) returns-5)
+    (λ c κs. search rules) (λ c κs. search rules) (λ c κs. search rules) (λ c. search rules) returns-5)

@@ -1,5 +1,11 @@
 -- `dwsha2::hashing::absorb` meets its contract: by the edition's width, with words converted where they have 32 bits. Assumes nothing.
-use Rattle.std.proofs.Common.{◌≡◌, ℕ, List, get_or, sym, ap, ◌∙◌, w64 as u64, Fits, rules}
+use Prim.Native.Nat.{ℕ}
+use mathlib.Core.List.{List}
+use mathlib.Core.Path.{◌≡◌, sym, ap, ◌∙◌}
+use mir.Syntax.{w64 as u64}
+use mir.Val.{Fits}
+use lib.ListN.{get_or}
+use borrow.Author.Rules.{rules}
 use Rattle.fips.specs.Constants.{chain}
 use Rattle.fips.specs.Code.ByteForm.{parse_bytes}
 use Rattle.fips.specs.Editions.{width}

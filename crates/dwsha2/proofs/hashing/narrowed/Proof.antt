@@ -1,5 +1,10 @@
 -- `dwsha2::hashing::narrowed` meets its contract: after i turns i words are taken to 32 bits. Assumes nothing.
-use Rattle.std.proofs.Common.{◌≡◌, ◌-◌, length, take, refl, ap, ◌∙◌, arith, take_all, rules}
+use Prim.Native.Nat.{◌-◌}
+use native.Mathlib.Omega.{arith}
+use lib.ListN.{length, take}
+use lib.Seq.{take_all}
+use mathlib.Core.Path.{◌≡◌, refl, ap, ◌∙◌}
+use borrow.Author.Rules.{rules}
 use Rattle.fips.specs.Words.{w32}
 use Rattle.dwsha2.specs.Code.Hashing.{fit}
 use Rattle.slices.proofs.Fill.{Filled, fill_more, fill-all}

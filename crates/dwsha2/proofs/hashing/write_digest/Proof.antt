@@ -1,5 +1,11 @@
 -- `dwsha2::hashing::write_digest` meets its contract: the words' bytes, of which the digest's go to the front. Assumes nothing.
-use Rattle.std.proofs.Common.{◌≡◌, ℕ, ◌/◌, List, length, sym, ap, ◌∙◌, arith, length-take-le, rules}
+use Prim.Native.Nat.{ℕ, ◌/◌}
+use mathlib.Core.List.{List}
+use mathlib.Core.Path.{◌≡◌, sym, ap, ◌∙◌}
+use native.Mathlib.Omega.{arith}
+use lib.ListN.{length}
+use lib.Seq.{length-take-le}
+use borrow.Author.Rules.{rules}
 use Rattle.fips.specs.Editions.{width}
 use Rattle.fips.proofs.Editions.{digest-within}
 use Rattle.slices.specs.AtFront.{at_front}

@@ -1,44 +1,28 @@
--- `dwsha2::limit::too_long` meets its contract: what the limit leaves is compared with what is to come. Assumes nothing.
-use Rattle.std.proofs.Common.{◌≡◌, ℕ, ltb, sym, ap, ◌∙◌, arith, rules}
-use Rattle.dwsha2.specs.Length.{whole_bytes}
-use Rattle.dwsha2.specs.Limit.{too_long}
-use Rattle.dwsha2.proofs.Limits.{past-limit, high-past, left-narrow, left-wide, left-plenty}
+-- `dwsha2::limit::too_long` meets its contract: the length so far passes the limit, or what the limit leaves is too little. Assumes nothing.
+use mathlib.Core.Bool.{Bool, true, false}
+use mathlib.Core.Path.{◌≡◌, refl, sym}
+use Prim.Native.Nat.{ℕ, ◌-◌, ◌≤◌}
+use native.Mathlib.Omega.{arith}
+use lib.Dec.{ltb}
+use borrow.Author.Tests.{ltb-true, ltb-false}
+use Rattle.dwsha2.specs.Limit.{limit, too_long}
+use Rattle.dwsha2.proofs.Limits.{within-limit, past-limit}
 use Rattle.dwsha2.proofs.limit.too_long.Statement.{statement}
 use Rattle.dwsha2.proofs.limit.too_long.Tie as tie
 
--- the length has a bit above those of a narrow edition's limit
+-- the difference is compared where the sum would be
+by_difference : (e c n : ℕ) → c ≤ limit → ltb (limit - c) n ≡ too_long e c n
+by_difference e c n h = go (ltb (limit - c) n) refl
+  where
+    go : (b : Bool) → ltb (limit - c) n ≡ b → b ≡ too_long e c n
+    go true q = sym (past-limit e c n (omega (arith, ltb-true (limit - c) n q)))
+    go false q = sym (within-limit e c n (omega (arith, ltb-false (limit - c) n q)))
+
 returns : tie.Need-returns
-returns c =
-    let s = c.before.before.before in
-    let thin = sym c.before.before.narrow.ensures ∙ c.before.if1.true in
-    sym (past-limit _ _ _ (high-past s.args.edition s.args.high s.args.low s.args.n thin c.if2.true))
+returns c = sym (past-limit _ _ _ (omega arith))
 
 returns-2 : tie.Need-returns-2
-returns-2 c =
-    let s = c.before.before.before.before in
-    let thin = sym c.before.before.before.narrow.ensures ∙ c.before.before.if1.true in
-    let none : s.args.high ≡ 0 = omega (arith, c.before.if2.false) in
-    ap (λ (k : ℕ). ltb k s.args.n) c.left.ensures
-    ∙ left-narrow s.args.edition s.args.low s.args.n thin (omega arith)
-    ∙ ap (λ (k : ℕ). too_long s.args.edition (whole_bytes k s.args.low) s.args.n) (sym none)
-
-returns-3 : tie.Need-returns-3
-returns-3 c =
-    let s = c.before.before.before in
-    let thick = sym c.before.before.narrow.ensures ∙ c.before.if1.false in
-    sym
-    (left-plenty s.args.edition s.args.high s.args.low s.args.n thick (omega arith) (omega arith) c.if3.true
-    (omega arith))
-
-returns-4 : tie.Need-returns-4
-returns-4 c =
-    let s = c.before.before.before.before in
-    let thick = sym c.before.before.before.narrow.ensures ∙ c.before.before.if1.false in
-    ap (λ (k : ℕ). ltb k s.args.n) c.left2.ensures
-    ∙ left-wide s.args.edition s.args.high s.args.low s.args.n thick (omega arith) (omega arith)
+returns-2 c = by_difference _ _ _ c.if1.false
 
 pub too-long-spec : {M : Type 1} → statement M
-too-long-spec =
-    tie.close
-    (tie.spec (λ c κs. search rules) returns (λ c κs. search rules) returns-2 (λ c. search rules) returns-3
-    (λ c κs. search rules) returns-4)
+too-long-spec = tie.close (tie.spec returns returns-2)

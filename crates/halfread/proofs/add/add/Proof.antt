@@ -7,7 +7,7 @@ use borrow.Author.Tests.{not-true, not-false}
 use Rattle.answers.specs.Judged.{first}
 use Rattle.answers.proofs.Outcome.{refused, done}
 use Rattle.dwsha2.specs.Limit.{too_long}
-use Rattle.halfread.specs.State.{count, sound}
+use Rattle.halfread.specs.State.{sound}
 use Rattle.halfread.specs.Steps.{add_tests}
 use Rattle.halfread.proofs.add.add.Statement.{statement}
 use Rattle.halfread.proofs.add.add.Tie as tie
@@ -27,7 +27,7 @@ returns-2 c =
 -- the piece keeps the limit
 room : (c : tie.Else2) →
     too_long c.before.before.before.before.before.args.half.edition
-    (count c.before.before.before.before.before.args.half)
+    c.before.before.before.before.before.args.half.count
     (length c.before.before.before.before.before.args.piece.now) ≡ false
 room c = sym c.before.too_long.ensures ∙ c.if2.false
 

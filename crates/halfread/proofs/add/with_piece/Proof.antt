@@ -3,22 +3,20 @@
 use Prim.Native.Nat.{ℕ, ◌+◌, ◌-◌, ◌*◌, ◌/◌, ◌≤◌, ◌<◌}
 use mathlib.Core.Bool.{true}
 use mathlib.Core.List.{List, ◌++◌}
-use mathlib.Core.Path.{◌≡◌, sym, ap, ◌∙◌}
-use native.Mathlib.Nat.{div-mul-le_self, mod-eq_of_lt}
+use mathlib.Core.Path.{◌≡◌, sym, ap}
+use native.Mathlib.Nat.{div-mul-le_self}
 use native.Mathlib.Omega.{arith}
 use lib.ListN.{length, take, drop}
 use lib.Seq.{length-take-le}
 use borrow.Author.Rules.{rules}
 use Rattle.halfread.specs.declared.HalfRead.{HalfRead}
-use Rattle.halfread.specs.State.{count, tail_length, padded, sound, tail_room}
+use Rattle.halfread.specs.State.{padded, sound, tail_room}
 use Rattle.halfread.specs.Steps.{waiting}
-use Rattle.dwsha2.specs.Length.{high_of, low_of}
-use Rattle.dwsha2.proofs.Limits.{length-fits, high_fits}
+use Rattle.dwsha2.proofs.Limits.{length-fits}
 use Rattle.slices.proofs.Blocks.{lack, lack-whole}
 use Rattle.halfread.proofs.Filling.{filled, fills-short, fills-long}
 use Rattle.halfread.proofs.Rules.{tail-lt, tail_within}
 use Rattle.fips.proofs.Sizes.{block-some, block_within}
-use Rattle.halfread.proofs.Sizes.{rest-low}
 use Rattle.halfread.proofs.Tails.{length-padded}
 use Rattle.halfread.proofs.add.with_piece.Statement.{statement}
 use Rattle.halfread.proofs.add.with_piece.Tie as tie
@@ -35,27 +33,14 @@ is-sound c = c.before.before.before.before.before.before.requires.0
 wide : (c : tie.After-tail-length) → length (half c).tail ≡ tail_room
 wide c = search rules
 
--- the sum keeps the limit, and so its words do not begin anew
-is-high : (c : tie.After-tail-length) → c.before.before.before.before.longer.result.high ≡ high_of (count (half c) + length (piece c))
-is-high c =
-    let s = c.before.before.before.before.before.before in
-    let long = length-fits (half c).edition (count (half c)) (length (piece c)) s.requires.1 in
-    c.before.before.before.before.longer.ensures.0 ∙ mod-eq_of_lt (high_fits (count (half c) + length (piece c)) long)
-
-is-low : (c : tie.After-tail-length) → c.before.before.before.before.longer.result.low ≡ low_of (count (half c) + length (piece c))
-is-low c = c.before.before.before.before.longer.ensures.1
-
-is-from : (c : tie.After-tail-length) → c.tail-length.result ≡ tail_length (half c)
-is-from c = rest-low (half c).edition (half c).high (half c).low c.tail-length.ensures
-
 size-some : (c : tie.After-tail-length) → 0 < c.before.block-bytes.result
 size-some c = omega (arith, c.before.block-bytes.ensures, block-some (half c).edition)
 
 from-lt : (c : tie.After-tail-length) → c.tail-length.result < c.before.block-bytes.result
-from-lt c = omega (arith, c.before.block-bytes.ensures, is-from c, tail-lt (half c))
+from-lt c = omega (arith, c.before.block-bytes.ensures, c.tail-length.ensures, tail-lt (half c))
 
 from-within : (c : tie.After-tail-length) → c.tail-length.result ≤ tail_room
-from-within c = omega (arith, is-from c, tail_within (half c))
+from-within c = omega (arith, c.tail-length.ensures, tail_within (half c))
 
 part-tail-end : tie.Need-slice-bounds-tail-end
 part-tail-end c = omega (arith, wide c)
@@ -73,14 +58,14 @@ unfolding joined
 is-joined c =
     let o = c.before.before.before in
     let p = c.before.put_front in
-    filled (half o) (wide o) (is-sound o) (piece o) p.new.0 (is-from o) p.ensures
+    filled (half o) (wide o) (is-sound o) (piece o) p.new.0 o.tail-length.ensures p.ensures
 
 returns : tie.Need-returns
 unfolding joined
 returns c =
     let o = c.before.before.before.before in
-    fills-short (half o) (wide o) (is-sound o) (piece o) (is-high o) (is-low o) o.before.block-bytes.ensures (is-from o)
-    (is-joined c.before) c.if1.true
+    fills-short (half o) (wide o) (is-sound o) (piece o) o.before.block-bytes.ensures o.tail-length.ensures (is-joined c.before)
+    c.if1.true
 
 end-within : (c : tie.Else1) → c.before.before.before.before.tail-length.result
     + lack c.before.before.before.before.before.block-bytes.result
@@ -104,13 +89,16 @@ unfolding joined
 returns-2 c =
     let l = c.before.before.before.before.before.before.before in
     let o = l.before.before.before.before in
-    fills-long (half o) (wide o) (is-sound o) (piece o) (is-high o) (is-low o) o.before.block-bytes.ensures (is-from o)
-    (is-joined l.before)
+    fills-long (half o) (wide o) (is-sound o) (piece o) o.before.block-bytes.ensures o.tail-length.ensures (is-joined l.before)
     l.if1.false
     c.before.before.before.before.before.absorb.ensures
     c.before.before.before.absorb2.ensures
     c.before.before.rest_at.ensures
     c.padded.ensures
+
+-- the sum keeps the limit, and so it does not wrap
+add-count : tie.Need-overflow-add-count
+add-count c = omega (arith, length-fits _ _ _ c.before.before.requires.1)
 
 -- the rest begins within the piece
 whole-within : {at : ℕ} (len n : ℕ) → at ≡ len / n * n → at ≤ len
@@ -119,7 +107,7 @@ whole-within len n e = omega (arith, div-mul-le_self len n)
 pub with-piece-spec : {M : Type 1} → statement M
 with-piece-spec =
     tie.close
-    (tie.spec (λ c κs. search rules) (λ c κs. search rules) (λ c κs. search rules)
+    (tie.spec add-count (λ c κs. search rules) (λ c κs. search rules)
     (λ c. omega (arith, from-lt c)) size-some from-within from-within part-tail-end (λ c κs. search rules) returns
     (λ c. omega (arith, end-within c)) array-share-prefix-tail slice-aggregate-absorb (λ c κs. search rules)
     (λ c. search rules) (λ c. search rules) (λ c. search rules) (λ c κs. search rules) (λ c κs. search rules)

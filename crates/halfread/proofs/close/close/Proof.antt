@@ -14,9 +14,9 @@ use Rattle.slices.specs.AtFront.{at_front}
 use Rattle.dwsha2.specs.Closing.{closing_fits}
 use Rattle.dwsha2.specs.Code.Hashing.{finished, digest_from}
 use Rattle.halfread.specs.declared.HalfRead.{HalfRead}
-use Rattle.halfread.specs.State.{count, tail_length, sound, tail_room}
+use Rattle.halfread.specs.State.{tail_length, sound, tail_room}
 use Rattle.halfread.specs.Steps.{close_tests, closed_digest}
-use Rattle.halfread.proofs.Sizes.{rest-within, rest-low}
+use Rattle.halfread.proofs.Sizes.{rest-within}
 use Rattle.halfread.proofs.close.close.Statement.{statement}
 use Rattle.halfread.proofs.close.close.Tie as tie
 
@@ -55,10 +55,10 @@ slice-aggregate-finish : tie.Need-slice-aggregate-finish
 slice-aggregate-finish c = sym (length-take-le _ _ (array-share-prefix-tail c.before))
 
 is-closed : (h : HalfRead) (x b : ℕ) {n : ℕ} {H : List ℕ} → n ≡ tail_length h →
-    H ≡ finished h.edition h.words (count h) (take n h.tail) x b → digest_from h.edition H ≡ closed_digest h x b
+    H ≡ finished h.edition h.words h.count (take n h.tail) x b → digest_from h.edition H ≡ closed_digest h x b
 unfolding closed_digest
 is-closed h x b p q =
-    ap (digest_from h.edition) (q ∙ ap (λ (n : ℕ). finished h.edition h.words (count h) (take n h.tail) x b) p)
+    ap (digest_from h.edition) (q ∙ ap (λ (n : ℕ). finished h.edition h.words h.count (take n h.tail) x b) p)
 
 returns-4 : tie.Need-returns-4
 unfolding close_tests first
@@ -69,13 +69,11 @@ returns-4 c =
     let e3 = k.before.before in
     let o = e3.before.before in
     let a = o.before.before.before.before.before.args in
-    let h = a.half in
-    let end = rest-low h.edition h.high h.low k.tail-length.ensures in
     done
     (rw (is-sound o.before.before, fitting o, ← e3.before.digest-bytes.ensures, le-ltb _ _ e3.if3.false))
     (w.write-digest.ensures
     ∙ ap (λ (l : List ℕ). at_front l a.out.now)
-    (is-closed h a.closing a.bits end f.finish.ensures))
+    (is-closed a.half a.closing a.bits k.tail-length.ensures f.finish.ensures))
 
 pub close_spec : {M : Type 1} → statement M
 close_spec =

@@ -8,7 +8,7 @@ use Rattle.halfread.proofs.state.open.Tie as tie
 
 returns : tie.Need-returns
 unfolding opened
-returns c = same-state _ _ refl refl refl c.starting-words.ensures refl
+returns c = same-state _ _ refl refl c.starting-words.ensures refl
 
 pub open_spec : {M : Type 1} → statement M
 open_spec = tie.close (tie.spec (λ c κs. search rules) returns)

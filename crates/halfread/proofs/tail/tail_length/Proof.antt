@@ -1,5 +1,5 @@
 -- `halfread::tail::tail_length` meets its contract: a block has some bytes. Assumes nothing.
-use Prim.Native.Nat.{ℕ, ◌/◌, ◌%◌}
+use Prim.Native.Nat.{ℕ, ◌%◌}
 use mathlib.Core.Path.{ap}
 use native.Mathlib.Omega.{arith}
 use borrow.Author.Rules.{rules}
@@ -11,7 +11,7 @@ rem-result : tie.Need-nonzero-rem-result
 rem-result c = omega (arith, block-some c.before.args.edition, c.block-bytes.ensures)
 
 returns : tie.Need-returns
-returns c = ap (λ (n : ℕ). c.before.args.low / 8 % n) c.block-bytes.ensures
+returns c = ap (λ (n : ℕ). c.before.args.count % n) c.block-bytes.ensures
 
 pub tail-length-spec : {M : Type 1} → statement M
 tail-length-spec = tie.close (tie.spec (λ c κs. search rules) rem-result returns)

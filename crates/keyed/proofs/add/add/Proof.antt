@@ -15,7 +15,7 @@ use Rattle.keyed.proofs.add.add.Tie as tie
 -- what ownership knows
 lends : (c : tie.After-keeps-more) → Shaped c.before.before.args.keyed × Bytes c.before.before.args.piece.now
 lends c = (
-  owned _ (search rules) (search rules) (search rules) (search rules) (search rules) (λ i. search rules) (λ i. search rules) (search rules)
+  owned _ (search rules) (search rules) (search rules) (search rules) (λ i. search rules) (λ i. search rules) (search rules)
       (λ i. search rules),
   (λ i. (c.before.shared-slice-known.given i).fits),
 )

@@ -16,7 +16,7 @@ use Rattle.hmac.proofs.Blocks.{length-hmac}
 use Rattle.keyed.specs.State.{tag_room}
 use Rattle.keyed.specs.AtOnce.{length_tests, check_at_once_tests}
 use Rattle.keyed.proofs.Adding.{front-tag}
-use Rattle.keyed.proofs.Judging.{lengths-passed, lengths-stop, check-first}
+use Rattle.keyed.proofs.Judging.{lengths-passed, lengths-stop, check-first, message-short}
 use Rattle.keyed.proofs.at_once.check.Statement.{statement}
 use Rattle.keyed.proofs.at_once.check.Tie as tie
 
@@ -71,5 +71,5 @@ pub check-spec : {M : Type 1} → statement M
 check-spec =
     tie.close
     (tie.spec (λ c κs. search rules) (λ c. search rules) returns (λ c κs. search rules)
-    (λ c κs. search rules) array-share-prefix-whole slice-aggregate-same-bytes (λ c κs. search rules)
+    (λ c κs. message-short _ _ _ (gated c.before)) array-share-prefix-whole slice-aggregate-same-bytes (λ c κs. search rules)
     returns-2 returns-3)

@@ -1,12 +1,8 @@
 -- `keyed::at_once::gate` meets its contract: each refusal by its test. Assumes nothing.
-use Prim.Native.Nat.{ℕ}
-use mathlib.Core.Path.{◌≡◌, sym, ap, ◌∙◌}
+use mathlib.Core.Path.{sym, ◌∙◌}
 use borrow.Author.Rules.{rules}
 use borrow.Author.Tests.{not-true, not-false}
 use Rattle.answers.specs.Judged.{first}
-use Rattle.dwsha2.specs.Limit.{too_long}
-use Rattle.hmac.specs.Hmac.{B}
-use Rattle.keyed.proofs.Lengths.{block-length}
 use Rattle.keyed.proofs.at_once.gate.Statement.{statement}
 use Rattle.keyed.proofs.at_once.gate.Tie as tie
 
@@ -20,17 +16,6 @@ returns-2 c =
     let k = c.before.before in
     rw (sym k.before.known.ensures ∙ not-false _ k.if1.false, sym c.before.too_long.ensures ∙ c.if2.true)
 
--- a block and the message
-whole : (c : tie.After-too-long2) →
-    too_long c.before.before.before.before.before.before.args.edition
-    (B c.before.before.before.before.before.before.args.edition)
-    c.before.before.before.before.before.before.args.message
-    ≡ c.too-long2.result
-whole c =
-    let a = c.before.before.before.before.before.before.args in
-    ap (λ (n : ℕ). too_long a.edition n a.message) (sym (block-length a.edition c.before.block-bits.ensures))
-    ∙ sym c.too-long2.ensures
-
 returns-3 : tie.Need-returns-3
 unfolding first
 returns-3 c =
@@ -39,7 +24,8 @@ returns-3 c =
     rw (
       sym k.before.known.ensures ∙ not-false _ k.if1.false,
       sym b.before.before.too_long.ensures ∙ b.before.if2.false,
-      whole c.before ∙ c.if3.true,
+      ← b.block-bytes.ensures,
+      sym c.before.too-long2.ensures ∙ c.if3.true,
     )
 
 returns-4 : tie.Need-returns-4
@@ -50,7 +36,8 @@ returns-4 c =
     rw (
       sym k.before.known.ensures ∙ not-false _ k.if1.false,
       sym b.before.before.too_long.ensures ∙ b.before.if2.false,
-      whole c.before ∙ c.if3.false,
+      ← b.block-bytes.ensures,
+      sym c.before.too-long2.ensures ∙ c.if3.false,
     )
 
 pub gate-spec : {M : Type 1} → statement M

@@ -17,6 +17,7 @@ use Rattle.hmac.proofs.Blocks.{length-hmac}
 use Rattle.keyed.specs.State.{tag_room}
 use Rattle.keyed.specs.AtOnce.{length_tests, tag_at_once_tests}
 use Rattle.keyed.proofs.Adding.{front-tag}
+use Rattle.keyed.proofs.Judging.{message-short}
 use Rattle.keyed.proofs.at_once.tag.Statement.{statement}
 use Rattle.keyed.proofs.at_once.tag.Tie as tie
 
@@ -65,5 +66,5 @@ pub tag-spec : {M : Type 1} → statement M
 tag-spec =
     tie.close
     (tie.spec (λ c κs. search rules) (λ c. search rules) returns (λ c κs. search rules) returns-2
-    (λ c κs. search rules) array-share-prefix-tag slice-aggregate-put-front (λ c κs. search rules)
+    (λ c κs. message-short _ _ _ (gated c.before.before)) array-share-prefix-tag slice-aggregate-put-front (λ c κs. search rules)
     (λ c. search rules) returns-3)

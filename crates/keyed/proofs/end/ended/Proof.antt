@@ -7,9 +7,9 @@ use lib.ListN.{length, take}
 use lib.Seq.{length-take-le}
 use borrow.Author.Rules.{rules}
 use Rattle.slices.specs.Padded.{padded}
-use Rattle.halfread.specs.State.{count, tail_room}
+use Rattle.halfread.specs.State.{tail_room}
 use Rattle.halfread.specs.Steps.{closed_digest}
-use Rattle.halfread.proofs.Sizes.{rest-within, rest-low}
+use Rattle.halfread.proofs.Sizes.{rest-within}
 use Rattle.dwsha2.specs.Code.Hashing.{finished, digest_from}
 use Rattle.keyed.specs.State.{tag_room}
 use Rattle.keyed.specs.Steps.{outer_digest, tag_of}
@@ -36,8 +36,7 @@ returns c =
     c.tag_of.ensures
     ∙ ap (λ (w : List ℕ). padded tag_room (outer_digest h.edition k.outer (digest_from h.edition w)))
     (f.finish.ensures
-    ∙ ap (λ (n : ℕ). finished h.edition h.words (count h) (take n h.tail) 0 0)
-    (rest-low h.edition h.high h.low t.tail-length.ensures))
+    ∙ ap (λ (n : ℕ). finished h.edition h.words h.count (take n h.tail) 0 0) t.tail-length.ensures)
 
 pub ended-spec : {M : Type 1} → statement M
 ended-spec =

@@ -22,8 +22,8 @@ use Rattle.keyed.proofs.end.tag.Tie as tie
 -- what ownership knows
 shape : (c : tie.After-is-sound) → Shaped c.before.before.args.keyed
 shape c =
-    owned _ (search rules) (search rules) (search rules) (search rules) (search rules) (λ i. search rules) (λ i. search rules)
-    (search rules) (λ i. search rules)
+    owned _ (search rules) (search rules) (search rules) (search rules) (λ i. search rules) (λ i. search rules) (search rules)
+    (λ i. search rules)
 
 returns : tie.Need-returns
 unfolding tag_tests first

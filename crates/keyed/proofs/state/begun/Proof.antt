@@ -22,7 +22,7 @@ returns c =
     let e = a.edition in
     let key = a.key.now in
     same-keyed _ _
-    (same-state _ _ refl refl c.block-bits.ensures (inner-words e key k.block-key.ensures i.words-after.ensures) refl
+    (same-state _ _ refl c.block-bytes.ensures (inner-words e key k.block-key.ensures i.words-after.ensures) refl
     ∙ sym (given-block e (inner_block e key) (length-inner e key)))
     (outer-words e key k.block-key.ensures o.words-after2.ensures
     ∙ sym (ap (λ (h : HalfRead). h.words) (given-block e (outer_block e key) (length-outer e key))))
