@@ -1,5 +1,7 @@
 // The answers that the calls give: SPEC, "Calls and their numbers".
 // An enum with a case for each number of its table, in the table's order, and the number of a case.
+#![tactic(auto)]
+
 ghost use Rattle.std.specs.Prelude.{◌≡◌};
 ghost use Rattle.answers.specs.Numbers.{number_of};
 

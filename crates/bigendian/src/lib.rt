@@ -1,5 +1,7 @@
 // Numbers and words to bytes and back, most significant byte first: SPEC, "Specification", under its table of signs.
 // `put` and `get` are for one number of any length, `put_words` and `get_words` for words of n bytes that stand one after the other.
+#![tactic(auto)]
+
 pub mod rows; // rows.rt: numbers in fields of fixed places
 
 ghost use Rattle.std.specs.Prelude.{◌≡◌, map, ◌+◌, ◌/◌, ◌≤◌, min, length};

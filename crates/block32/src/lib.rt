@@ -1,5 +1,7 @@
 // The block rule at 32 bits: FIPS 180-4 §4.1.2 and §6.2.2, SPEC, "One block". Each function is the standard's of its name,
 // and `absorb32` runs the rule over the whole blocks of a slice, each taken straight from the caller's bytes.
+#![tactic(auto)]
+
 ghost use Rattle.std.specs.Prelude.{◌≡◌, ℕ, ◌+◌, ◌<◌, ◌≤◌, List, length, take, drop, slice_index, slice_set};
 ghost use mathlib.Core.List.{zip_with};
 ghost use Rattle.bigendian.specs.BigEndian.{number};

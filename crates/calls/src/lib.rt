@@ -1,4 +1,6 @@
 // Layer 2, the calls on the table of bays: SPEC, "Calls and their numbers". A call asks the table, takes its step, and writes one bay.
+#![tactic(auto)]
+
 ghost use Rattle.std.specs.Prelude.{[]};
 ghost use Rattle.answers.specs.Numbers.{number_of};
 ghost use Rattle.calls.specs.Calls.{Call, told, Lends, Outcome, Asks};

@@ -1,5 +1,7 @@
 // Dwombarine under C names, for include/dwombarine.h: SPEC, "C names". Each function is the call of the same name: it answers that
 // call's number, and leaves in all that is lent to it what that call leaves. A slice is a pointer and a length.
+#![tactic(auto)]
+
 ghost use Rattle.std.specs.Prelude.{[], ◌≡◌};
 ghost use Rattle.answers.specs.Judged.{first};
 ghost use Rattle.calls.specs.Calls.{Call, told, Lends, Outcome, Asks};

@@ -1,4 +1,6 @@
 // Layer 1, hashing: what the layers above build on for every edition, and hash at once. The block functions stand below, a crate each.
+#![tactic(auto)]
+
 pub mod limit; // limit.rt: the length limit
 pub mod closing; // closing.rt: the closing byte, its bits, the length
 pub mod starting; // starting.rt: the starting words

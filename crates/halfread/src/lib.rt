@@ -1,4 +1,6 @@
 // A half-read message by value: opened, with a piece added, closed, and whether it is sound. SPEC, "The table of bays".
+#![tactic(auto)]
+
 pub mod tail; // tail.rt: how long a tail is, and zeros behind it
 pub mod state; // state.rt: a message of which nothing is taken, and an empty bay's state
 pub mod sound; // sound.rt: the rules of a sound bay

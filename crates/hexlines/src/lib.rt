@@ -1,5 +1,7 @@
 // Lines of text as test vectors have them: fields between single spaces, decimal numbers, bytes in hexadecimal.
 // Every function is total; what is no number or no hexadecimal is said to be none.
+#![tactic(auto)]
+
 ghost use Rattle.std.specs.Prelude.{◌≡◌, ◌++◌, suc, ◌/◌, ◌≤◌, min, length, take, drop};
 ghost use Rattle.slices.specs.Parts.{LiesAt};
 ghost use Rattle.hexlines.specs.Fields.{place, first_field, other_fields};

@@ -1,4 +1,6 @@
 // HMAC over every edition: SPEC, "Keyed digests". A tag is made or compared at once, or of a message that comes in pieces.
+#![tactic(auto)]
+
 mod pads; // pads.rt: the key as a block, and the chaining words after it
 pub mod state; // state.rt: a keyed hash that a key begins, and whether one is sound
 pub mod add; // add.rt: a piece more

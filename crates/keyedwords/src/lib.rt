@@ -1,5 +1,7 @@
 // A keyed hash in lent words: SPEC, "Keyed digests". The words are unpacked to a keyed hash by value, and packed again; those behind them
 // are the caller's, and are neither read nor written.
+#![tactic(auto)]
+
 ghost use Rattle.std.specs.Prelude.{◌≡◌, ◌≤◌, length};
 ghost use Rattle.answers.specs.Judged.{first};
 ghost use Rattle.answers.specs.Numbers.{number_of};

@@ -1,1 +1,2 @@
 // Every sequence of calls on a keyed hash, by value and under C names, as theorems about the calls' own contracts. There is no code here.
+#![tactic(auto)]

@@ -1,6 +1,8 @@
 // The lines that the checker writes: SPEC, "The program". One for each file, why it is missing, the counts, and the one where there is no
 // list. Each is put at the front of an output, and its length is answered; a line that is longer than the output is cut, and in `ROOM`
 // bytes each is whole (`line-whole`, `reason-whole`, `counts_whole`, `not-a-list-whole`). Nothing here opens, reads or writes a file.
+#![tactic(auto)]
+
 ghost use Rattle.std.specs.Prelude.{◌≡◌, ◌++◌};
 ghost use Rattle.fips.specs.Constants.{ascii};
 ghost use Rattle.lists.specs.Calls.{pair_in};

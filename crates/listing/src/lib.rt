@@ -1,5 +1,7 @@
 // What the list maker says: SPEC, "The list maker". Names that come one behind the other, whether a list may have them, what a call that
 // puts a pair answered, and the lines about it. Nothing here opens, reads or writes a file.
+#![tactic(auto)]
+
 pub mod names; // names.rt: names that come one behind the other, each ended by a zero byte
 pub mod shown; // shown.rt: a name as text in which nothing can be taken for something else
 pub mod says; // says.rt: the lines

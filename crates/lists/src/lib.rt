@@ -1,6 +1,8 @@
 // Digest lists, SPEC, "Digest list": the digest of a name in a list, and judging a digest by it.
 // `find` says where a digest lies; `lookup` lends it out of the list, and `judge` compares with it. `place` says where a name belongs, for
 // one who writes a list. Any bytes are taken.
+#![tactic(auto)]
+
 mod rules;
 pub mod fields; // fields.rt: where a list has its numbers
 pub mod names; // names.rt: which names a list may have

@@ -1,5 +1,7 @@
 // The night of the accident, as a client of the calls: three files are taken alternately, one of them is saved half-read, the table is
 // lost, and in the morning every file gets its digest. SPEC, "The table of bays" and "The saved record".
+#![tactic(auto)]
+
 ghost use Rattle.answers.specs.Numbers.{number_of};
 ghost use Rattle.night.specs.Night.{digests, Night};
 

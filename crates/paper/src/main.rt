@@ -1,4 +1,6 @@
 // The samples of SPEC, "Samples", that are not marked P, run through the calls: what each answers, and the digest of the longest message.
+#![tactic(auto)]
+
 use answers::Answer;
 
 fn say(what: &[u8], answer: Answer) {

@@ -1,6 +1,8 @@
 // Reading: what the programs ask of the system. A whole file at once, and a file piece by piece into a bay. A read may bring fewer bytes
 // than were asked for, and one that a signal interrupts has failed only for that turn. Nothing says that a file ends, so each loop counts
 // its turns down, from a number that no run uses up. What a file holds is the system's: the contracts say that there is such a file.
+#![tactic(auto)]
+
 ghost use Rattle.lists.specs.Layout.{edition_in};
 ghost use Rattle.report.specs.Code.Files.{Reading};
 ghost use Rattle.report.specs.Code.Program.{File, Led};

@@ -1,4 +1,6 @@
 // The saved record: SPEC, "The saved record". Written from a state and saved; its fields read back and loaded.
+#![tactic(auto)]
+
 ghost use Rattle.std.specs.Prelude.{◌≡◌, take};
 ghost use Rattle.answers.specs.Judged.{Judged};
 ghost use Rattle.answers.specs.Numbers.{number_of};

@@ -1,5 +1,7 @@
 // What the checker says of a file: SPEC, "The program". Its bytes go through a bay, and how reading ended decides the verdict.
 // Nothing here opens, reads or writes a file.
+#![tactic(auto)]
+
 pub mod file; // file.rt: a file through a bay, from its first piece to its verdict
 pub mod reads; // reads.rt: what the answer of a read says
 

@@ -21,10 +21,10 @@ module _ {r s : Bor (List ℕ)} {at : ℕ} (same : r.ref_ptr.0 ≡ s.ref_ptr.0) 
     offset = e ∙ add_comm start s.ref_ptr.1 ∙ ap (λ (k : ℕ). s.ref_ptr.1 + k) (p ∙ sym (begins-there r.now at h));
   }
 
-  pub lies-first : r.ref_ptr.1 ≡ s.ptr.1 → r.now ≡ [] → LiesAt r s at
+  pub lies-first : r.ref_ptr.1 ≡ s.ref_ptr.1 → r.now ≡ [] → LiesAt r s at
   lies-first e n = record {
     block = same;
-    offset = e ∙ sym (add-zero s.ptr.1) ∙ ap (λ (l : List ℕ). s.ptr.1 + begins l at) (sym n);
+    offset = e ∙ sym (add-zero s.ref_ptr.1) ∙ ap (λ (l : List ℕ). s.ref_ptr.1 + begins l at) (sym n);
   }
 
 -- the place by another name

@@ -1,4 +1,6 @@
 // The chunk tree over a stream, by value: SPEC, "Tree over a stream". A stream is begun, takes pieces, and tells its root at any moment.
+#![tactic(auto)]
+
 pub mod state; // state.rt: a stream of which nothing is taken, and whether one is sound
 mod roots; // roots.rt: the roots held, and what chunks more make of them
 pub mod add; // add.rt: a piece more

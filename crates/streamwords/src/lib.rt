@@ -1,5 +1,7 @@
 // A stream in lent words: SPEC, "Tree over a stream". The words are unpacked to a stream by value, and packed again; those behind them are
 // the caller's, and are neither read nor written.
+#![tactic(auto)]
+
 ghost use Rattle.std.specs.Prelude.{◌≡◌, ◌≤◌, length};
 ghost use Rattle.answers.specs.Numbers.{number_of};
 ghost use Rattle.slices.specs.AtFront.{at_front};

@@ -1,5 +1,7 @@
 // The parts of a chunk tree under C names, for tests/tree: published trees have leaves that are no chunks, which no call takes. They are in
 // no header. Each writes at the front of what it is lent, and leaves what stands behind.
+#![tactic(auto)]
+
 ghost use Rattle.std.specs.Prelude.{◌≡◌, take};
 ghost use Rattle.slices.specs.AtFront.{at_front};
 ghost use Rattle.tree.specs.Code.Held.{levelled};

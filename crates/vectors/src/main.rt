@@ -1,5 +1,7 @@
 // Runs the published messages and digests of data/ through hash at once, and writes for each file how many of its lines hold.
 // What it must write is the crate's file `stdout`; data/README.md says where the vectors are from and how their lines read.
+#![tactic(auto)]
+
 mod file;
 mod line;
 

@@ -1,5 +1,7 @@
 // Writing digest lists, SPEC, "Writing a list": a list grows at the front of a lent buffer, a pair at a time, and is one after each call.
 // `put` reads once, which judges the list and finds the place, and then moves once, from the end; no second buffer is needed.
+#![tactic(auto)]
+
 mod moving;
 
 ghost use Rattle.std.specs.Prelude.{◌≡◌};

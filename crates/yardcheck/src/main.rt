@@ -2,6 +2,8 @@
 // writes a line for each and the counts; on standard error, why a file is missing. What is said of a file is `report`'s and in which words
 // `lines`'; here files are opened, read and closed, and lines are written. Its memory is one list, one piece, one bay and one line, however
 // long the files are.
+#![tactic(auto)]
+
 ghost use Rattle.report.specs.Code.Program.{Verdicted};
 
 use lines::{Tally, Verdict};

@@ -2,6 +2,8 @@
 // started that has such a name is read through a bay, and its pair is put in a list by `writer`. The list is written to a new file, which
 // takes the name `yard.man` at the end; whatever fails before leaves `yard.man` as it was. Its first argument is the edition, its second
 // the new file's name. Which names are refused and in which words is `listing`'s; here files are read and written.
+#![tactic(auto)]
+
 ghost use Rattle.yardlist.specs.Entered.{Closed, Entered};
 
 use listing::{Reason, Step, names, says};

@@ -9,8 +9,7 @@ use borrow.Author.Rules.{rules}
 use Rattle.slices.proofs.LiesAt.{lies-there, lies-first}
 use Rattle.slices.proofs.Parts.{take_within, drop-within}
 use Rattle.slices.specs.Parts.{part}
-use Rattle.slices.proofs.places.part.Statement.{statement}
-use Rattle.slices.proofs.places.part.Tie as tie
+use Rattle.slices.proofs.places.part.Goals as goal
 
 module _ (bs : List ℕ) (at n start size : ℕ) (s : start ≡ min at (length bs)) (e : size ≡ min n (length bs - start)) where
   cut : take (start + size - start) (drop start bs) ≡ part bs at n
@@ -30,25 +29,11 @@ module _ (bs : List ℕ) (at n start size : ℕ) (s : start ≡ min at (length b
     some : 0 < length (take (start + size - start) (drop start bs))
     some = simp (length-take, length-drop) (omega arith)
 
-returns : tie.Need-returns
-returns c =
-    let l = c.before.before in
-    (none _ _ _ _ _ l.before.least.ensures l.least2.ensures c.before.if1.true, lies-first refl refl refl)
+pub returns-then-start-end : goal.returns-then-start-end
+returns-then-start-end c = record { result_value = none _ _ _ _ _ c.least-start.ensures c.least.ensures c.if-start-end.true; lies_at = lies-first refl refl refl }
 
-returns-2 : tie.Need-returns-2
-returns-2 c =
-    let l = c.before.before in
-    let a = l.before.before.before.args in
-    let start = l.before.least.ensures in
-    let size = l.least2.ensures in
-    let z = c.before.if1.false in (
-      cut _ _ _ _ _ start size,
-      lies-there refl _ refl (there a.s.now a.at a.n _ _ start size z) (some a.s.now a.at a.n _ _ start size z),
-    )
-
-pub part-spec : {M : Type 1} → statement M
-part-spec =
-    tie.close
-    (tie.spec
-    (λ c κs. search rules) (λ c. search rules) (λ c κs. search rules) (λ c. search rules) (λ c. search rules) returns
-    (λ c. search rules) (λ c. search rules) (λ c. search rules) returns-2)
+pub returns : goal.returns
+returns c = let a = c.args in
+    let start = c.least-start.ensures in
+    let size = c.least.ensures in
+    let z = c.if-start-end.false in record { result_value = cut _ _ _ _ _ start size; lies_at = lies-there refl _ refl (there a.s.now a.at a.n _ _ start size z) (some a.s.now a.at a.n _ _ start size z) }

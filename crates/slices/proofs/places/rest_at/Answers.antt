@@ -4,17 +4,16 @@ use mathlib.Core.Path.{◌≡◌, sym, ap, ◌∙◌}
 use native.Mathlib.Nat.{div-add-mod', mod-le, mul-zero}
 use native.Mathlib.Omega.{arith}
 use borrow.Author.Rules.{rules}
-use Rattle.slices.proofs.places.rest_at.Statement.{statement}
-use Rattle.slices.proofs.places.rest_at.Tie as tie
+use Rattle.slices.proofs.places.rest_at.Goals as goal
 
 none : (len n : ℕ) → n ≡ 0 → 0 ≡ len / n * n
 none len n e = sym (ap (λ (k : ℕ). len / n * k) e ∙ mul-zero (len / n))
 
-returns : tie.Need-returns
-returns c = none c.before.args.len c.before.args.n c.if1.true
+pub returns-then-n-eq0 : goal.returns-then-n-eq0
+returns-then-n-eq0 c = none c.args.len c.args.n c.if-n-eq0.true
 
-returns-2 : tie.Need-returns-2
-returns-2 c = omega (arith, div-add-mod' c.before.args.len c.before.args.n)
+pub returns : goal.returns
+returns c = omega (arith, div-add-mod' c.args.len c.args.n)
 
-pub rest-at-spec : {M : Type 1} → statement M
-rest-at-spec = tie.close (tie.spec returns (λ c. search rules) (λ c. mod-le _ _) returns-2)
+pub overflow_sub-result : goal.overflow_sub-result
+overflow_sub-result c = mod-le _ _

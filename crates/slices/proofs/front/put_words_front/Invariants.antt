@@ -1,0 +1,13 @@
+-- `slices::front::put_words_front` meets its contract: after i turns i words are written. Assumes nothing.
+use Prim.Native.Nat.{◌-◌}
+use native.Mathlib.Omega.{arith}
+use borrow.Author.Rules.{rules}
+use lib.ListN.{length, length-set}
+use Rattle.slices.proofs.AtFront.{Written, written_none, written-more, written_all, written-full}
+use Rattle.slices.proofs.front.put_words_front.Given as goal
+
+abbrev pub invariant-loop-i : goal.invariant-loop-i
+invariant-loop-i l = Written l.words l.initial.out l.out l.i
+
+abbrev pub decreases-loop-i : goal.decreases-loop-i
+decreases-loop-i l = length l.out - l.i

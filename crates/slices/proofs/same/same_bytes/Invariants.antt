@@ -1,0 +1,14 @@
+-- `slices::same::same_bytes` meets its contract: what was found so far and what is left of both decide. Assumes nothing.
+use Prim.Native.Nat.{◌-◌}
+use mathlib.Core.Path.{sym}
+use native.Mathlib.Numerals.{add-one}
+use native.Mathlib.Omega.{arith}
+use lib.ListN.{length}
+use Rattle.slices.proofs.Tests.{Compared, compared-none, compared-more, compared-all, same-lengths}
+use Rattle.slices.proofs.same.same_bytes.Given as goal
+
+abbrev pub invariant-loop-i : goal.invariant-loop-i
+invariant-loop-i l = Compared l.a l.b l.same l.i
+
+abbrev pub decreases-loop-i : goal.decreases-loop-i
+decreases-loop-i l = length l.a - l.i
