@@ -8,12 +8,8 @@ use Rattle.fips.specs.Block.{next, schedule, round, rounds, block, blocks}
 use Rattle.fips.specs.Padding.{zeros, pad, parse}
 use Rattle.fips.specs.Constants.{round_words, hash_from, start224, start256, start384, start512, ascii, generated}
 use Rattle.fips.specs.Editions.{editions, start_rows}
-use Rattle.fips.proofs.tables.rows.Statement.{statement}
-use Rattle.fips.proofs.tables.rows.Tie as tie
+use Rattle.fips.proofs.tables.rows.Goals as goal
 
-returns : tie.Need-returns
+pub returns : goal.returns
 unfolding bits value bits_of pieces primes primes_below is_prime undivided root_word root next schedule round rounds block blocks zeros pad parse round_words hash_from start224 start256 start384 start512 ascii generated editions start_rows zip_with
 returns c = refl
-
-pub rows-spec : {M : Type 1} → statement M
-rows-spec = tie.close (tie.spec returns)
