@@ -15,13 +15,7 @@ ghost use Rattle.writer.specs.Writing;
 
 use lists::Found;
 
-pub fn dw_hash(
-    edition: u64,
-    message: &[u8],
-    closing: u8,
-    bits: u64,
-    out: &mut [u8],
-) -> u64
+pub fn dw_hash(edition: u64, message: &[u8], closing: u8, bits: u64, out: &mut [u8]) -> u64
     ensures { Hashes edition message.now closing bits out.old result out.new }
 {
     answers::number(dwsha2::hash::hash(edition, message, closing, bits, out))
@@ -48,13 +42,7 @@ pub fn dw_add(table: &mut [u64], bay: u64, piece: &[u8]) -> u64
     answers::number(calls::add(table, bay, piece))
 }
 
-pub fn dw_close(
-    table: &mut [u64],
-    bay: u64,
-    closing: u8,
-    bits: u64,
-    out: &mut [u8],
-) -> u64
+pub fn dw_close(table: &mut [u64], bay: u64, closing: u8, bits: u64, out: &mut [u8]) -> u64
     ensures outcome { Outcome table.old (Call.closing bay closing bits out.old) result table.new out.new }
     ensures lends { Lends table.old (Call.closing bay closing bits out.old) }
 {
