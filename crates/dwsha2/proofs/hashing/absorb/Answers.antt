@@ -14,33 +14,24 @@ use Rattle.fips.specs.Sizes.{width_of}
 use Rattle.fips.proofs.Sizes.{width-of}
 use Rattle.dwsha2.proofs.Widths.{fit_same}
 use Rattle.dwsha2.proofs.Absorbed.{absorbed-at}
-use Rattle.dwsha2.proofs.hashing.absorb.Statement.{statement}
-use Rattle.dwsha2.proofs.hashing.absorb.Tie as tie
+use Rattle.dwsha2.proofs.hashing.absorb.Goals as goal
 
-returns : tie.Need-returns
-returns c =
-    let a = c.before.before.before.before.before.before.args in
+pub returns-then-narrow : goal.returns-then-narrow
+returns-then-narrow c = let a = c.args in
     let e = a.edition in
     let thin : width e ≡ w32 =
-    width-of e ∙ ap width_of (sym c.before.before.before.before.narrow.ensures ∙ c.before.before.before.if1.true)
+    width-of e ∙ ap width_of (sym c.narrow.ensures ∙ c.if-narrow.true)
     in
     c.widened.ensures
-    ∙ c.before.absorb32.ensures
-    ∙ ap (λ (H : List ℕ). chain w32 H (parse_bytes w32 a.bytes.now)) c.before.before.narrowed.ensures
+    ∙ c.absorb32.ensures
+    ∙ ap (λ (H : List ℕ). chain w32 H (parse_bytes w32 a.bytes.now)) c.narrowed.ensures
     ∙ sym (absorbed-at e w32 a.words a.bytes.now thin)
 
-returns-2 : tie.Need-returns-2
-returns-2 c =
-    let a = c.before.before.before.before.args in
+pub returns-else-narrow : goal.returns-else-narrow
+returns-else-narrow c = let a = c.args in
     let e = a.edition in
-    let wide : width e ≡ w64 = width-of e ∙ ap width_of (sym c.before.before.narrow.ensures ∙ c.before.if1.false) in
+    let wide : width e ≡ w64 = width-of e ∙ ap width_of (sym c.narrow.ensures ∙ c.if-narrow.false) in
     let fits : (i : ℕ) → Fits u64 (get_or a.words i 0) = λ i. search rules in
     c.absorb64.ensures
     ∙ ap (λ (H : List ℕ). chain w64 H (parse_bytes w64 a.bytes.now)) (sym (fit_same w64 a.words (λ i. (fits i).fits)))
     ∙ sym (absorbed-at e w64 a.words a.bytes.now wide)
-
-pub absorb-spec : {M : Type 1} → statement M
-absorb-spec =
-    tie.close
-    (tie.spec (λ c κs. search rules) (λ c κs. search rules) (λ c κs. search rules) (λ c κs. search rules) (λ c κs. search rules)
-    returns returns-2)

@@ -7,19 +7,12 @@ use lib.ListN.{replicate}
 use borrow.Author.Rules.{rules}
 use Rattle.bigendian.proofs.Words.{with_words-all}
 use Rattle.dwsha2.proofs.Length.{length-words}
-use Rattle.dwsha2.proofs.closing.length_field.Statement.{statement}
-use Rattle.dwsha2.proofs.closing.length_field.Tie as tie
+use Rattle.dwsha2.proofs.closing.length_field.Goals as goal
 
-returns : tie.Need-returns
-returns c =
-    let a = c.before.before.before.before.args in
+pub returns : goal.returns
+returns c = let a = c.args in
     let n = a.count in
     let b = a.bits % 8 in
-    c.before.put-words.ensures
+    c.put_words.ensures
     ∙ with_words-all 8 (n / 2 ^ 61 ∷ (n % 2 ^ 61 * 8 + b) ∷ []) (replicate 16 0) (omega arith) refl
     ∙ length-words n b (omega arith)
-
-pub length-field-spec : {M : Type 1} → statement M
-length-field-spec =
-    tie.close
-    (tie.spec (λ c. search rules) (λ c. search rules) (λ c. search rules) (λ c. search rules) (λ c κs. search rules) returns)

@@ -7,10 +7,10 @@ use lib.Dec.{ltb}
 use borrow.Author.Tests.{ltb-true, ltb-false}
 use Rattle.dwsha2.specs.Limit.{limit, too_long}
 use Rattle.dwsha2.proofs.Limits.{within-limit, past-limit}
-use Rattle.dwsha2.proofs.limit.too_long.Statement.{statement}
-use Rattle.dwsha2.proofs.limit.too_long.Tie as tie
+use Rattle.dwsha2.proofs.limit.too_long.Goals as goal
 
 -- the difference is compared where the sum would be
+
 by_difference : (e c n : ℕ) → c ≤ limit → ltb (limit - c) n ≡ too_long e c n
 by_difference e c n h = go (ltb (limit - c) n) refl
   where
@@ -18,11 +18,8 @@ by_difference e c n h = go (ltb (limit - c) n) refl
     go true q = sym (past-limit e c n (omega (arith, ltb-true (limit - c) n q)))
     go false q = sym (within-limit e c n (omega (arith, ltb-false (limit - c) n q)))
 
-returns : tie.Need-returns
-returns c = sym (past-limit _ _ _ (omega arith))
+pub returns-then-count-gt-LIMIT : goal.returns-then-count-gt-LIMIT
+returns-then-count-gt-LIMIT c = sym (past-limit _ _ _ (omega arith))
 
-returns-2 : tie.Need-returns-2
-returns-2 c = by_difference _ _ _ c.if1.false
-
-pub too-long-spec : {M : Type 1} → statement M
-too-long-spec = tie.close (tie.spec returns returns-2)
+pub returns : goal.returns
+returns c = by_difference _ _ _ c.if-count-gt-LIMIT.false

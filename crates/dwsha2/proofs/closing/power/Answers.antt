@@ -5,11 +5,7 @@ use native.Mathlib.Omega.{arith}
 use Prim.Native.Nat.{◌^◌}
 use lib.Pow.{shl_exact}
 use borrow.Author.Rules.{rules}
-use Rattle.dwsha2.proofs.closing.power.Statement.{statement}
-use Rattle.dwsha2.proofs.closing.power.Tie as tie
+use Rattle.dwsha2.proofs.closing.power.Goals as goal
 
-returns : tie.Need-returns
+pub returns : goal.returns
 returns c = shl_exact {a = 1} 1 c.args.k 64 (omega arith) (omega arith) ∙ one-mul (2 ^ c.args.k)
-
-pub power-spec : {M : Type 1} → statement M
-power-spec = tie.close (tie.spec (λ c. search rules) returns)
