@@ -50,7 +50,7 @@ pub fn dw_close(table: &mut [u64], bay: u64, closing: u8, bits: u64, out: &mut [
 }
 
 pub fn dw_save(table: &[u64], bay: u64, out: &mut [u8]) -> u64
-    ensures outcome { Outcome table.now (Call.saving bay out.old) result table.now out.new }
+    ensures outcome { Outcome table.now (Call.saving bay out.old) result table.exit.now out.new }
     ensures lends { Lends table.now (Call.saving bay out.old) }
 {
     answers::number(calls::save(table, bay, out))

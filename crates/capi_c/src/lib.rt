@@ -66,7 +66,7 @@ pub extern "C" fn dw_close(
 
 #[unsafe(no_mangle)]
 pub extern "C" fn dw_save(table: &[u64], bay: u64, out: &mut [u8]) -> u64
-    ensures outcome { Outcome table.now (Call.saving bay out.old) result table.now out.new }
+    ensures outcome { Outcome table.now (Call.saving bay out.old) result table.exit.now out.new }
     ensures lends { Lends table.now (Call.saving bay out.old) }
 {
     capi::dw_save(table, bay, out)
