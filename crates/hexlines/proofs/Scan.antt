@@ -11,7 +11,7 @@ use lib.ListN.{length, get_or, take, drop, drop_of_length-le}
 use lib.Seq.{drop-cons, length-take-le}
 use Rattle.hexlines.specs.declared.Number.TheVariants.{Is, Not}
 use Rattle.hexlines.specs.Fields.{place}
-use Rattle.hexlines.specs.Digits.{digit_of, all_digits_lem, is_hex, number_from, decimal_of}
+use Rattle.hexlines.specs.Digits.{digit_of, all_digits, is_hex, number_from, decimal_of}
 
 -- the first i bytes are not b
 pub record Passed (b : ℕ) (s : List ℕ) (i : ℕ) : Type 0 where
@@ -47,13 +47,13 @@ nowhere b s i h p = answered b s i p.within (p.left ∙ rw (drop_of_length-le s 
 -- the first i bytes are digits
 pub record Digits (s : List ℕ) (i : ℕ) : Type 0 where
   pub within : i ≤ length s
-  pub left : all_digits_lem s ≡ all_digits_lem (drop i s)
+  pub left : all_digits s ≡ all_digits (drop i s)
 
 pub no-digits : (s : List ℕ) → Digits s 0
 no-digits s = record { within = omega arith; left = refl }
 
 pub one-digit : (s : List ℕ) (i d : ℕ) → i < length s → d ≡ digit_of (get_or s i 0) → (d ≡ 16 → ⊥) → Digits s i → Digits s (i + 1)
-unfolding all_digits_lem
+unfolding all_digits
 one-digit s i d h e n p =
     record {
       within = omega arith;
@@ -61,11 +61,11 @@ one-digit s i d h e n p =
     }
 
 pub no_digit : (s : List ℕ) (i d : ℕ) → i < length s → d ≡ digit_of (get_or s i 0) → d ≡ 16 → Digits s i → false ≡ is_hex s
-unfolding all_digits_lem is_hex
+unfolding all_digits is_hex
 no_digit s i d h e n p = rw (p.left, drop-cons s i 0 h, ← e, eq-eqb d 16 n)
 
 pub all_digits_lem : (s : List ℕ) (i : ℕ) → length s ≤ i → Digits s i → eqb (length s % 2) 0 ≡ is_hex s
-unfolding all_digits_lem is_hex
+unfolding all_digits is_hex
 all_digits_lem s i h p = rw (p.left, drop_of_length-le s h)
 
 -- x is the number of the first i bytes

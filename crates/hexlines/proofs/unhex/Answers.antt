@@ -2,19 +2,14 @@
 -- Assumes nothing.
 use mathlib.Core.Path.{◌≡◌, refl, sym, ap, ◌∙◌}
 use mathlib.Core.List.{List, [], ◌∷◌, ◌++◌}
-use Prim.Native.Nat.{ℕ, zero, suc, ◌+◌, ◌-◌, ◌*◌, ◌/◌, ◌≤◌, ◌<◌, min}
+use Prim.Native.Nat.{ℕ, zero, suc, ◌+◌, ◌*◌, ◌<◌}
 use native.Mathlib.Omega.{arith}
 use native.Mathlib.Numerals.{add-one}
 use lib.ListN.{length, drop, get_or, set, length-append, length-set}
 use lib.Seq.{drop-cons, set_at, append_snoc}
 use Rattle.hexlines.specs.Digits.{byte_of, bytes_of}
-use Rattle.hexlines.proofs.unhex.Statement.{statement}
-use Rattle.hexlines.proofs.unhex.Tie as tie
-
-record Filled (s d₀ : List ℕ) (n : ℕ) (d : List ℕ) (i : ℕ) : Type 0 where
-  size : length d ≡ length d₀
-  within : i ≤ n
-  bytes : d ≡ bytes_of s i ++ drop i d₀
+use Rattle.hexlines.proofs.unhex.Goals as goal
+use Rattle.hexlines.proofs.unhex.Invariants.{Filled}
 
 empty : (s d : List ℕ) (n : ℕ) → Filled s d n d 0
 unfolding bytes_of
@@ -43,30 +38,14 @@ turn s d₀ n d i v h l e f =
       bytes = rw add-one (ap (set d i) e ∙ ap (λ (l : List ℕ). set l i byte) f.bytes ∙ one_more s d₀ i (omega arith));
     }
 
-whole : (s d₀ : List ℕ) (n : ℕ) (d : List ℕ) (i : ℕ) → n ≤ i → n ≡ min (length s / 2) (length d₀) → Filled s d₀ n d i
-    → (n ≡ min (length s / 2) (length d₀)) × (d ≡ bytes_of s n ++ drop n d₀)
-whole s d₀ n d i h e f =
-    let q : i ≡ n = omega arith in
-    (e, rw q at f.bytes)
+pub loop-i-preserved : goal.loop-i-preserved
+loop-i-preserved c = turn _ _ _ _ _ _ (omega arith) (omega arith) c.byte.ensures c.loop-i.invariant
 
-abbrev invariant-loop : tie.invariant-loop
-invariant-loop s d₀ n i₀ d i = Filled s d₀ n d i
-
-abbrev decreases-loop : tie.decreases-loop
-decreases-loop s d₀ n i₀ d i = n - i
-
-loop-again : tie.Need-loop-preserved invariant-loop decreases-loop
-loop-again c = turn _ _ _ _ _ _ (omega arith) (omega arith) c.byte.ensures c.before.before.before.before.loop.invariant
-
-returns : tie.Need-returns invariant-loop decreases-loop
+pub returns : goal.returns
 returns c =
-    let b = c.before in
-    whole b.before.before.before.before.args.s.now b.before.before.before.before.args.d.now b.before.least.result
-    b.loop.d b.loop.i (omega arith) b.before.least.ensures b.loop.invariant
+    let f = c.loop-i.invariant in
+    let q : c.loop-i.i ≡ c.least-n.result = omega arith in
+    record { value = c.least-n.ensures; d_after = rw q at f.bytes }
 
-pub unhex-spec : {M : Type 1} → statement M
-unhex-spec =
-    tie.close
-    (tie.spec
-    invariant-loop decreases-loop (λ c κs. tt) (λ c. empty _ _ _) (λ c. omega arith) (λ c. omega arith) (λ c. omega arith) (λ c. omega arith)
-    (λ c. omega arith) (λ c κs. tt) (λ c. omega arith) (λ c. omega arith) (λ c. omega arith) loop-again (λ c. omega arith) returns)
+pub loop-i-init : goal.loop-i-init
+loop-i-init c = empty _ _ _

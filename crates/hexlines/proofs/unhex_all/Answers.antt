@@ -5,10 +5,9 @@ use mathlib.Core.List.{List, ◌++◌}
 use Prim.Native.Nat.{ℕ, ◌/◌, ◌≤◌, ◌<◌, min}
 use native.Mathlib.Omega.{arith}
 use lib.ListN.{length, drop}
-use borrow.Author.Tests.{not-true, not-false, le-leb, lt-leb}
+use borrow.Author.Tests.{le-leb, lt-leb}
 use Rattle.hexlines.specs.Digits.{is_hex, bytes_of, size_within}
-use Rattle.hexlines.proofs.unhex_all.Statement.{statement}
-use Rattle.hexlines.proofs.unhex_all.Tie as tie
+use Rattle.hexlines.proofs.unhex_all.Goals as goal
 
 nothing : (s d : List ℕ) → d ≡ bytes_of s 0 ++ drop 0 d
 unfolding bytes_of
@@ -27,20 +26,11 @@ module _ (room : ℕ) (s : List ℕ) where
   unfolding size_within
   all_there n h l e = simp (h, le-leb (length s / 2) room l) (omega arith)
 
-returns : tie.Need-returns
-returns c = (no-hex _ _ (sym c.before.is-hex.ensures ∙ not-true _ c.if1.true), nothing _ _)
+pub returns-then-not-is_hex : goal.returns-then-not-is_hex
+returns-then-not-is_hex c = record { value = no-hex _ _ (sym c.is_hex.ensures ∙ c.if-not-is_hex.true); d_after = nothing _ _ }
 
-returns-2 : tie.Need-returns-2
-returns-2 c =
-    let hex = sym c.before.before.is-hex.ensures ∙ not-false _ c.before.if1.false in
-    (no_room _ _ hex c.if2.true, nothing _ _)
+pub returns-then-d-s : goal.returns-then-d-s
+returns-then-d-s c = let hex = sym c.is_hex.ensures ∙ c.if-not-is_hex.false in record { value = no_room _ _ hex c.if-d-s.true; d_after = nothing _ _ }
 
-returns-3 : tie.Need-returns-3
-returns-3 c =
-    let b = c.before.before in
-    let room = b.before.before in
-    let hex = sym room.before.before.is-hex.ensures ∙ not-false _ room.before.if1.false in
-    (all_there _ _ _ hex room.if2.false b.unhex.ensures.0, b.unhex.ensures.1)
-
-pub unhex-all-spec : {M : Type 1} → statement M
-unhex-all-spec = tie.close (tie.spec (λ c κs. tt) returns returns-2 (λ c κs. tt) (λ c. omega arith) returns-3)
+pub returns : goal.returns
+returns c = let hex = sym c.is_hex.ensures ∙ c.if-not-is_hex.false in record { value = all_there _ _ _ hex c.if-d-s.false c.unhex.ensures.value; d_after = c.unhex.ensures.d_after }
