@@ -18,27 +18,24 @@ answers =
     ∷ Answer.ForbiddenName ∷ Answer.NameTaken ∷ Answer.ListFull ∷ []
 
 pub answer_at : (a : Answer) → get_or answers (number_of a) Answer.Done ≡ a
-answer_at a =
-    elim a [
-      | Answer.Done ↦ refl
-      | Answer.BadTable ↦ refl
-      | Answer.NoSuchBay ↦ refl
-      | Answer.BayTaken ↦ refl
-      | Answer.BayEmpty ↦ refl
-      | Answer.NoSuchEdition ↦ refl
-      | Answer.NotSound ↦ refl
-      | Answer.TooLong ↦ refl
-      | Answer.BadClosing ↦ refl
-      | Answer.ShortOutput ↦ refl
-      | Answer.BadRecord ↦ refl
-      | Answer.BadLayout ↦ refl
-      | Answer.NotAList ↦ refl
-      | Answer.NotListed ↦ refl
-      | Answer.DigestDiffers ↦ refl
-      | Answer.ForbiddenName ↦ refl
-      | Answer.NameTaken ↦ refl
-      | Answer.ListFull ↦ refl
-    ]
+answer_at Answer.Done = refl
+answer_at Answer.BadTable = refl
+answer_at Answer.NoSuchBay = refl
+answer_at Answer.BayTaken = refl
+answer_at Answer.BayEmpty = refl
+answer_at Answer.NoSuchEdition = refl
+answer_at Answer.NotSound = refl
+answer_at Answer.TooLong = refl
+answer_at Answer.BadClosing = refl
+answer_at Answer.ShortOutput = refl
+answer_at Answer.BadRecord = refl
+answer_at Answer.BadLayout = refl
+answer_at Answer.NotAList = refl
+answer_at Answer.NotListed = refl
+answer_at Answer.DigestDiffers = refl
+answer_at Answer.ForbiddenName = refl
+answer_at Answer.NameTaken = refl
+answer_at Answer.ListFull = refl
 
 pub number-injective : (a b : Answer) → number_of a ≡ number_of b → a ≡ b
 number-injective a b e = sym (answer_at a) ∙ ap (λ (n : ℕ). get_or answers n Answer.Done) e ∙ answer_at b

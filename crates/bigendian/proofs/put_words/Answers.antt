@@ -12,15 +12,8 @@ use Rattle.bigendian.specs.BigEndian.{be}
 use Rattle.bigendian.specs.Words.{from_words, fitting, with_words}
 use Rattle.slices.proofs.Parts.{part-joins}
 use Rattle.bigendian.proofs.Words.{length-from_words, from_words-take-suc, fitting-le}
-use Rattle.bigendian.proofs.put_words.Statement.{statement}
-use Rattle.bigendian.proofs.put_words.Tie as tie
-
-record Written (d₀ words : List ℕ) (n m : ℕ) (d : List ℕ) (at i : ℕ) : Type 0 where
-  enough : m ≤ length words
-  within : i ≤ m
-  place : at ≡ i * n
-  space : at + (m - i) * n ≤ length d₀
-  bytes : d ≡ from_words n (take i words) ++ drop at d₀
+use Rattle.bigendian.proofs.put_words.Goals as goal
+use Rattle.bigendian.proofs.put_words.Invariants.{Written}
 
 start : (d₀ words : List ℕ) (n m : ℕ) → m ≡ fitting n words d₀ → Written d₀ words n m d₀ 0 0
 unfolding from_words
@@ -73,38 +66,23 @@ module _ (d₀ words : List ℕ) (n m : ℕ) (d : List ℕ) (at i : ℕ) (f : Wr
       let k : i ≡ fitting n words d₀ = omega arith in
       f.bytes ∙ rw (f.place, k)
 
-abbrev invariant-loop : tie.invariant-loop
-invariant-loop d₀ words n m at₀ i₀ d at i = Written d₀ words n m d at i
+pub loop-i-init : goal.loop-i-init
+loop-i-init c = start _ _ _ _ c.room-m.ensures
 
-abbrev decreases-loop : tie.decreases-loop
-decreases-loop d₀ words n m at₀ i₀ d at i = m - i
+pub overflow_add-end : goal.overflow_add-end
+overflow_add-end c = omega (arith, next _ _ _ _ _ _ _ c.loop-i.invariant c.loop-i-test.true)
 
-loop-holds : tie.Need-loop-init invariant-loop decreases-loop
-loop-holds c = start _ _ _ _ c.room.ensures
+pub slice_bounds-put-end : goal.slice_bounds-put-end
+slice_bounds-put-end c = let f = c.loop-i.invariant in
+    omega (arith, next _ _ _ _ _ _ _ f c.loop-i-test.true, size _ _ _ _ _ _ _ f)
 
-add-end : tie.Need-overflow-add-end invariant-loop decreases-loop
-add-end c = omega (arith, next _ _ _ _ _ _ _ c.before.loop.invariant c.loop-test.true)
+pub loop-i-preserved : goal.loop-i-preserved
+loop-i-preserved c = let l = c.loop-i in
+    turn _ _ _ _ l.d l.at l.i l.invariant c.put.new.d
+    c.loop-i-test.true c.put.ensures
 
-part-put-end : tie.Need-slice-bounds-put-end invariant-loop decreases-loop
-part-put-end c =
-    let f = c.before.loop.invariant in
-    omega (arith, next _ _ _ _ _ _ _ f c.loop-test.true, size _ _ _ _ _ _ _ f)
+pub shape_of-d : goal.shape_of-d
+shape_of-d c = size _ _ _ _ _ _ _ c.loop-i.invariant
 
-loop-again : tie.Need-loop-preserved invariant-loop decreases-loop
-loop-again c =
-    let l = c.before.before.before.before.before.before.loop in
-    turn _ _ _ _ l.d l.at l.i l.invariant c.before.before.put.new.0
-    c.before.before.before.before.before.loop-test.true c.before.before.put.ensures
-
-same_length : tie.Need-same-length invariant-loop decreases-loop
-same_length c = size _ _ _ _ _ _ _ c.before.loop.invariant
-
-returns : tie.Need-returns invariant-loop decreases-loop
-returns c = whole _ _ _ _ _ _ _ c.before.loop.invariant c.before.before.room.ensures c.loop-test.false
-
-pub put-words-spec : {M : Type 1} → statement M
-put-words-spec =
-    tie.close
-    (tie.spec
-    invariant-loop decreases-loop (λ c κs. tt) loop-holds add-end (λ c. omega arith) (λ c. omega arith) part-put-end (λ c. omega arith)
-    (λ c. omega arith) (λ c κs. tt) (λ c. omega arith) (λ c. omega arith) loop-again same_length returns)
+pub returns : goal.returns
+returns c = whole _ _ _ _ _ _ _ c.loop-i.invariant c.room-m.ensures c.loop-i-test.false

@@ -12,8 +12,8 @@ use borrow.Author.Tests.{lt-ltb, le-ltb}
 use Rattle.bigendian.specs.BigEndian.{be}
 use Rattle.bigendian.specs.Code.PutRow.{put_row}
 use Rattle.bigendian.proofs.BigEndian.{length-be}
-use Rattle.bigendian.proofs.rows.put_row.Statement.{statement}
-use Rattle.bigendian.proofs.rows.put_row.Tie as tie
+use Rattle.bigendian.proofs.rows.put_row.Goals as goal
+use Rattle.bigendian.proofs.rows.put_row.Invariants.{Written}
 
 -- ---- the definition, step by step
 
@@ -41,11 +41,6 @@ put-end (n ∷ ns) (x ∷ xs) bs zero h = absurd (omega arith)
 put-end (n ∷ ns) (x ∷ xs) bs (suc i) h = put-end ns xs bs i (omega arith)
 
 -- ---- the loop
-
-record Written (d₀ ns xs d : List ℕ) (at i : ℕ) : Type 0 where
-  size : length d ≡ length d₀
-  within : at ≤ length d
-  all : put_row ns xs d₀ ≡ take at d ++ put_row (drop i ns) (drop i xs) (drop at d)
 
 start : (d₀ ns xs : List ℕ) → Written d₀ ns xs d₀ 0 0
 start d₀ ns xs = record { size = refl; within = omega arith; all = refl }
@@ -84,32 +79,18 @@ module _ (d₀ ns xs d : List ℕ) (at i : ℕ) (w : Written d₀ ns xs d at i) 
             ∙ rw (joined, take_at front rest (at + n) long, drop_at front rest (at + n) long, more, ← is_n, add-one, append_assoc);
       }
 
-abbrev invariant-loop : tie.invariant-loop
-invariant-loop d₀ sizes values fields at₀ i₀ d at i = Written d₀ sizes values d at i
-
-abbrev decreases-loop : tie.decreases-loop
-decreases-loop d₀ sizes values fields at₀ i₀ d at i = fields - i
-
-returns : tie.Need-returns invariant-loop decreases-loop
-returns c =
-    let l = c.before.before.before.loop in
+pub returns-then-d-at : goal.returns-then-d-at
+returns-then-d-at c = let l = c.loop-i in
     full _ _ _ l.d l.at l.i l.invariant (omega arith) (omega arith)
 
-loop-again : tie.Need-loop-preserved invariant-loop decreases-loop
-loop-again c =
-    let l = c.before.before.before.before.before.before.before.before.loop in
-    turn _ _ _ l.d l.at l.i l.invariant _ c.before.before.put.new.0 (omega arith) refl (omega arith)
-    c.before.before.put.ensures
+pub loop-i-preserved : goal.loop-i-preserved
+loop-i-preserved c = let l = c.loop-i in
+    turn _ _ _ l.d l.at l.i l.invariant _ c.put.new.d (omega arith) refl (omega arith)
+    c.put.ensures
 
-returns-2 : tie.Need-returns-2 invariant-loop decreases-loop
-returns-2 c =
-    let l = c.before.loop in
+pub returns : goal.returns
+returns c = let l = c.loop-i in
     whole _ _ _ l.d l.at l.i l.invariant (omega arith)
 
-pub put-row-spec : {M : Type 1} → statement M
-put-row-spec =
-    tie.close
-    (tie.spec
-    invariant-loop decreases-loop (λ c κs. tt) (λ c. start _ _ _) (λ c. omega arith) (λ c. omega arith) (λ c. omega arith) (λ c. omega arith) returns
-    (λ c. omega arith) (λ c. omega arith) (λ c. omega arith) (λ c. omega arith) (λ c. omega arith) (λ c. omega arith)
-    (λ c κs. tt) (λ c. omega arith) (λ c. omega arith) loop-again (λ c. omega arith) returns-2)
+pub loop-i-init : goal.loop-i-init
+loop-i-init c = start _ _ _

@@ -8,20 +8,15 @@ use native.Mathlib.Omega.{arith}
 use lib.ListN.{length, drop, set, length-set}
 use lib.Seq.{drop-cons, drop-set-lt, drop-length, get_or-set_same}
 use Rattle.bigendian.specs.BigEndian.{be}
-use Rattle.bigendian.proofs.put.Statement.{statement}
-use Rattle.bigendian.proofs.put.Tie as tie
-
-record Filled (d₀ : List ℕ) (x : ℕ) (d : List ℕ) (rest i : ℕ) : Type 0 where
-  size : length d ≡ length d₀
-  within : i ≤ length d₀
-  bytes : drop i d ≡ be (length d₀ - i) x
-  left : rest ≡ x / 256 ^ (length d₀ - i)
+use Rattle.bigendian.proofs.put.Goals as goal
+use Rattle.bigendian.proofs.put.Invariants.{Filled}
 
 empty : (d : List ℕ) (x : ℕ) → Filled d x d x (length d)
 unfolding be
 empty d x = record { size = refl; within = omega arith; bytes = drop-length d ∙ rw sub_self; left = rw sub_self (sym (div-one x)) }
 
 -- one byte more, where k stand already
+
 turn : (d₀ : List ℕ) (x : ℕ) (d : List ℕ) (rest i j : ℕ) → i ≡ suc j → Filled d₀ x d rest i
     → Filled d₀ x (set d j (rest % 256)) (rest / 256) j
 unfolding be
@@ -49,21 +44,11 @@ turn d₀ x d rest i j e f =
 whole : (d₀ : List ℕ) (x : ℕ) (d : List ℕ) (rest i : ℕ) → i ≡ 0 → Filled d₀ x d rest i → d ≡ be (length d₀) x
 whole d₀ x d rest i e f = rw (e, sub-zero) at f.bytes
 
-abbrev invariant-loop : tie.invariant-loop
-invariant-loop d₀ x rest₀ i₀ d rest i = Filled d₀ x d rest i
+pub loop-i-preserved : goal.loop-i-preserved
+loop-i-preserved c = turn _ _ _ _ c.loop-i.i (c.loop-i.i - 1) (omega arith) c.loop-i.invariant
 
-abbrev decreases-loop : tie.decreases-loop
-decreases-loop d₀ x rest₀ i₀ d rest i = i
+pub returns : goal.returns
+returns c = whole _ _ _ _ c.loop-i.i (omega arith) c.loop-i.invariant
 
-loop-again : tie.Need-loop-preserved invariant-loop decreases-loop
-loop-again c = turn _ _ _ _ c.before.loop.i (c.before.loop.i - 1) (omega arith) c.before.loop.invariant
-
-returns : tie.Need-returns invariant-loop decreases-loop
-returns c = whole _ _ _ _ c.before.loop.i (omega arith) c.before.loop.invariant
-
-pub put_spec : {M : Type 1} → statement M
-put_spec =
-    tie.close
-    (tie.spec
-    invariant-loop decreases-loop (λ c. empty _ _) (λ c. omega arith) (λ c. omega arith) (λ c. omega arith) (λ c. omega arith) loop-again
-    (λ c. omega arith) returns)
+pub loop-i-init : goal.loop-i-init
+loop-i-init c = empty _ _

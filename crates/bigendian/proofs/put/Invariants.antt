@@ -1,0 +1,23 @@
+-- `bigendian::put` meets its contract. It writes from the end: the invariant says that from i on stand the last bytes of x,
+-- and that what is left of x is x without them. The measure is i.
+use mathlib.Core.Path.{◌≡◌, refl, sym, ◌∙◌}
+use mathlib.Core.List.{List}
+use Prim.Native.Nat.{ℕ, suc, ◌-◌, ◌/◌, ◌%◌, ◌^◌, ◌<◌, ◌≤◌}
+use native.Mathlib.Nat.{sub_self, sub-zero, pow-suc, div-div-eq-div-mul, div-one}
+use native.Mathlib.Omega.{arith}
+use lib.ListN.{length, drop, set, length-set}
+use lib.Seq.{drop-cons, drop-set-lt, drop-length, get_or-set_same}
+use Rattle.bigendian.specs.BigEndian.{be}
+use Rattle.bigendian.proofs.put.Given as goal
+
+pub record Filled (d₀ : List ℕ) (x : ℕ) (d : List ℕ) (rest i : ℕ) : Type 0 where
+  pub size : length d ≡ length d₀
+  pub within : i ≤ length d₀
+  pub bytes : drop i d ≡ be (length d₀ - i) x
+  pub left : rest ≡ x / 256 ^ (length d₀ - i)
+
+abbrev pub invariant-loop-i : goal.invariant-loop-i
+invariant-loop-i l = Filled l.initial.d l.x l.d l.rest l.i
+
+abbrev pub decreases-loop-i : goal.decreases-loop-i
+decreases-loop-i l = l.i
