@@ -1,0 +1,11 @@
+-- What is left from `at` decides, and less than a block decides nothing more. Assumes nothing.
+use Rattle.std.proofs.Common.{◌-◌, length, arith}
+use Rattle.fips.specs.Words.{w32}
+use Rattle.blockrule.proofs.Parse.{part-long, Absorbed, absorb-none, absorb-more, absorb-all}
+use Rattle.block32.proofs.absorb32.Given as goal
+
+abbrev pub invariant-loop-at : goal.invariant-loop-at
+invariant-loop-at l = Absorbed w32 l.k l.initial.v l.s l.v l.at
+
+abbrev pub decreases-loop-at : goal.decreases-loop-at
+decreases-loop-at l = length l.s - l.at

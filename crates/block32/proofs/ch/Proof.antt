@@ -1,8 +1,0 @@
--- The short form of Ch makes the standard's word, for all words below 2^32. Assumes nothing.
-use Rattle.fips.specs.Words.{w32}
-use Rattle.blockrule.proofs.Forms.{ch-short}
-use Rattle.block32.proofs.ch.Statement.{statement}
-use Rattle.block32.proofs.ch.Tie as tie
-
-pub ch-spec : {M : Type 1} → statement M
-ch-spec = tie.close (tie.spec (λ c. ch-short w32 c.ranges.x.fits c.ranges.y.fits c.ranges.z.fits))

@@ -1,0 +1,11 @@
+-- The letters after t rounds are the standard's. Assumes nothing.
+use Rattle.std.proofs.Common.{◌-◌, refl, arith}
+use Rattle.fips.specs.Words.{w32}
+use Rattle.blockrule.proofs.Rounds.{Turned, turn-none, turn_more, turn-all}
+use Rattle.block32.proofs.rounds.Given as goal
+
+abbrev pub invariant-loop-t : goal.invariant-loop-t
+invariant-loop-t l = Turned w32 64 l.k l.w l.initial.s l.s l.t
+
+abbrev pub decreases-loop-t : goal.decreases-loop-t
+decreases-loop-t l = 64 - l.t

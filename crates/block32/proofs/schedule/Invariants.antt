@@ -1,0 +1,15 @@
+-- From the block's words on, each store is the standard's next word. Assumes nothing.
+use Rattle.std.proofs.Common.{◌≡◌, ◌-◌, ◌%◌, ◌≤◌, refl, arith, rules}
+use Rattle.bigendian.specs.Words.{to_words}
+use Rattle.fips.specs.Words.{w32}
+use Rattle.fips.specs.Block.{schedule}
+use Rattle.slices.proofs.Fill.{Filled, fill-all}
+use Rattle.bigendian.proofs.Words.{length-to_words}
+use Rattle.blockrule.proofs.Schedule.{schedule-begun, schedule-more-8}
+use Rattle.block32.proofs.schedule.Given as goal
+
+abbrev pub invariant-loop-t : goal.invariant-loop-t
+invariant-loop-t l = (16 ≤ l.t) × (l.t % 8 ≡ 0) × Filled 64 64 (schedule w32 (to_words 16 4 l.s)) l.w l.t
+
+abbrev pub decreases-loop-t : goal.decreases-loop-t
+decreases-loop-t l = 64 - l.t

@@ -1,0 +1,8 @@
+-- Schedule, rounds and sums are the block rule. Assumes nothing.
+use Rattle.std.proofs.Common.{arith}
+use Rattle.fips.specs.Block.{block}
+use Rattle.block64.proofs.block.Goals as goal
+
+pub returns : goal.returns
+unfolding block
+returns c = cc
