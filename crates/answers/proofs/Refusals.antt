@@ -1,6 +1,6 @@
 -- How a call's outcome is made of those of its parts: `stopped` by the first tests, `went_on` past them; a part that refuses,
 -- `part-refused`, or is done, `done_first` and `done-leaves`, by its number `zero-first` and `zero-leaves`. An answer that is not Done
--- refuses: `refuses`.
+-- refuses: `refuses`, `not_done`.
 use Prim.Native.Nat.{ℕ, zero, suc, ◌<◌}
 use mathlib.Core.List.{List, [], ◌∷◌, ◌++◌}
 use mathlib.Core.Path.{◌≡◌, refl, sym, ap, subst, ◌∙◌}
@@ -28,6 +28,14 @@ refuses a h = go (number_of a) refl
     go zero e =
         let is_done : a ≡ Answer.Done = number-injective a Answer.Done e in
         absurd (miss others 0 tt (subst (λ (x : Answer). OneOf others (tag_of declared.the_type x)) is_done h))
+    go (suc n) e = zero-lt-suc n
+
+-- the same where an arm of a match tells that it is not
+pub not_done : (a : Answer) → (a ≡ Answer.Done → ⊥) → 0 < number_of a
+not_done a h = go (number_of a) refl
+  where
+    go : (n : ℕ) → number_of a ≡ n → 0 < n
+    go zero e = absurd (h (number-injective a Answer.Done e))
     go (suc n) e = zero-lt-suc n
 
 -- ---- two lists of tests

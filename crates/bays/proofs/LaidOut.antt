@@ -10,7 +10,7 @@ use lib.ListN.{length, take, drop, set, replicate, length-append, length-take, l
 use lib.ListN.{length-replicate, replicate-append-replicate}
 use lib.Seq.{take_at, drop_at, drop-drop, drop-append-add}
 use Rattle.bays.specs.Places.{first_bay, bay_words, place_of}
-use Rattle.bays.specs.Table.{bays_of, room_for, headed, bay_at, laid_out_lem}
+use Rattle.bays.specs.Table.{bays_of, room_for, headed, bay_at, laid_out}
 use Rattle.bays.specs.Bay.{empty_bay}
 use Rattle.bays.proofs.Frames.{room_of, headed-of}
 
@@ -21,25 +21,25 @@ abbrev zeros : ℕ → List ℕ
 zeros n = replicate n 0
 
 module _ (n : ℕ) (t : List ℕ) where
-  pub bays_of-laid_out : bays_of (laid_out_lem n t) ≡ n
-  unfolding laid_out_lem
+  pub bays_of-laid_out : bays_of (laid_out n t) ≡ n
+  unfolding laid_out
   bays_of-laid_out = refl
 
-  pub length-laid_out : place_of n ≤ length t → length (laid_out_lem n t) ≡ length t
-  unfolding laid_out_lem
+  pub length-laid_out : place_of n ≤ length t → length (laid_out n t) ≡ length t
+  unfolding laid_out
   length-laid_out h = simp (length-append, length-replicate, length-drop) (omega arith)
 
-  pub headed-laid_out : room_for n (length t) ≡ true → headed (laid_out_lem n t) ≡ true
-  unfolding laid_out_lem
+  pub headed-laid_out : room_for n (length t) ≡ true → headed (laid_out n t) ≡ true
+  unfolding laid_out
   headed-laid_out e =
-      headed-of (laid_out_lem n t) (ap (room_for n) (length-laid_out (room_of n (length t) e).within) ∙ e) refl refl refl
+      headed-of (laid_out n t) (ap (room_for n) (length-laid_out (room_of n (length t) e).within) ∙ e) refl refl refl
 
   -- behind the header
-  drop_head : (m : ℕ) → drop (first_bay + m) (laid_out_lem n t) ≡ drop m (zeros (bay_words * n) ++ drop (place_of n) t)
-  unfolding laid_out_lem
+  drop_head : (m : ℕ) → drop (first_bay + m) (laid_out n t) ≡ drop m (zeros (bay_words * n) ++ drop (place_of n) t)
+  unfolding laid_out
   drop_head m = drop-append-add (head n) (zeros (bay_words * n) ++ drop (place_of n) t) m
 
-  pub laid_out-past : drop (place_of n) (laid_out_lem n t) ≡ drop (place_of n) t
+  pub laid_out-past : drop (place_of n) (laid_out n t) ≡ drop (place_of n) t
   laid_out-past =
       drop_head (bay_words * n)
       ∙ drop_at (zeros (bay_words * n)) (drop (place_of n) t) (bay_words * n) (length-replicate (bay_words * n) 0)
@@ -54,7 +54,7 @@ module _ (n : ℕ) (t : List ℕ) where
         ← replicate-append-replicate {A = ℕ} bay_words (bay_words * (n - i - 1)) 0,
       )
 
-  pub bay_at-laid_out : (i : ℕ) → i < n → bay_at (laid_out_lem n t) i ≡ empty_bay
+  pub bay_at-laid_out : (i : ℕ) → i < n → bay_at (laid_out n t) i ≡ empty_bay
   unfolding bay_at
   bay_at-laid_out i h =
       let after = zeros (bay_words * (n - i - 1)) in
@@ -89,8 +89,8 @@ module _ (t : List ℕ) (n : ℕ) (room : place_of n ≤ length t) where
   begun-room = simp length-set room
 
   pub laid_out_lem : (new : List ℕ) → new ≡ zeros (length (take (place_of n - first_bay) (drop first_bay begun))) →
-      take first_bay begun ++ (new ++ drop (place_of n - first_bay) (drop first_bay begun)) ≡ laid_out_lem n t
-  unfolding laid_out_lem
+      take first_bay begun ++ (new ++ drop (place_of n - first_bay) (drop first_bay begun)) ≡ laid_out n t
+  unfolding laid_out
   laid_out_lem new e =
       let set4 = head-set t n (omega arith) in
       let long : length (take (place_of n - first_bay) (drop first_bay begun)) ≡ bay_words * n =

@@ -18,7 +18,7 @@ use Rattle.answers.proofs.Refusals.{done_first, done-leaves}
 use Rattle.answers.proofs.Tests.{passed}
 use Rattle.slices.proofs.Tests.{holds_at, holds_on, holds-last}
 use Rattle.bays.specs.Places.{bays_word, first_word, size_word, zero_word, first_bay, most_bays, bay_words, place_of}
-use Rattle.bays.specs.Table.{bays_of, room_for, headed, bay_at, laid_out_lem}
+use Rattle.bays.specs.Table.{bays_of, room_for, headed, bay_at, laid_out}
 use Rattle.bays.specs.ByWords.{TableRules, Laid, word_at}
 use Rattle.bays.specs.Gate.{layout_tests}
 use Rattle.bays.proofs.Frames.{room_of, headed-room, headed-of}
@@ -74,8 +74,8 @@ word-of-bay t i j p = get_or-take bay_words (drop (place_of i) t) j 0 p ∙ get_
 -- ---- a layout
 
 module _ (n : ℕ) (t : List ℕ) where
-  pub laid-by-words : room_for n (length t) ≡ true → Laid n t (laid_out_lem n t)
-  unfolding laid_out_lem
+  pub laid-by-words : room_for n (length t) ≡ true → Laid n t (laid_out n t)
+  unfolding laid_out
   laid-by-words e =
       record {
         count = refl;
@@ -83,13 +83,13 @@ module _ (n : ℕ) (t : List ℕ) where
         size = refl;
         spare = refl;
         empty = λ i j p q.
-            sym (word-of-bay (laid_out_lem n t) i j q)
+            sym (word-of-bay (laid_out n t) i j q)
             ∙ ap (λ l. get_or l j 0) (bay_at-laid_out n t i p)
             ∙ get_or-replicate bay_words j 0 0 q;
         callers = λ k p.
             let at : place_of n + (k - place_of n) ≡ k = omega arith in
-            ap (λ (m : ℕ). get_or (laid_out_lem n t) m 0) (sym at)
-            ∙ sym (get_or-drop (place_of n) (laid_out_lem n t) (k - place_of n) 0)
+            ap (λ (m : ℕ). get_or (laid_out n t) m 0) (sym at)
+            ∙ sym (get_or-drop (place_of n) (laid_out n t) (k - place_of n) 0)
             ∙ ap (λ l. get_or l (k - place_of n) 0) (laid_out-past n t)
             ∙ get_or-drop (place_of n) t (k - place_of n) 0
             ∙ ap (λ (m : ℕ). get_or t m 0) at;
@@ -126,11 +126,11 @@ module _ (n : ℕ) (t : List ℕ) where
         go k (no h) (yes l) = bay-same k (omega arith) l
         go k (no h) (no l) = p.callers k (omega arith) ∙ sym (q.callers k (omega arith))
 
-  pub laid-only : room_for n (length t) ≡ true → (new : List ℕ) → Laid n t new → new ≡ laid_out_lem n t
-  laid-only e new p = laid-settled new (laid_out_lem n t) p (laid-by-words e)
+  pub laid-only : room_for n (length t) ≡ true → (new : List ℕ) → Laid n t new → new ≡ laid_out n t
+  laid-only e new p = laid-settled new (laid_out n t) p (laid-by-words e)
 
 -- by the contract of the code: a layout that is done
-laid_done : (n : ℕ) (t : List ℕ) (r : Answer) {left : List ℕ} → Judged (layout_tests t n) t (laid_out_lem n t) (number_of r) left →
+laid_done : (n : ℕ) (t : List ℕ) (r : Answer) {left : List ℕ} → Judged (layout_tests t n) t (laid_out n t) (number_of r) left →
     r ≡ Answer.Done → Laid n t left
 laid_done n t r j d =
     subst (Laid n t) (sym (done-leaves j d))

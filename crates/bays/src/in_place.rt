@@ -67,7 +67,7 @@ pub fn gate_free(table: &[u64], bay: u64) -> Answer
 }
 
 // What a bay was asked for: the answer, and what it holds, which is nothing where it is refused.
-#[derive(Drop)]
+#[derive(Clone, Copy)]
 pub struct Held {
     pub answer: Answer,
     pub half: HalfRead,

@@ -112,7 +112,7 @@ pub fn load(table: &mut [u64], bay: u64, record: &[u8]) -> Answer
 }
 
 // What ask tells: edition and bytes taken, both 0 for an empty bay or a refusal.
-#[derive(Drop)]
+#[derive(Clone, Copy)]
 pub struct Asked {
     pub answer: Answer,
     pub edition: u64,

@@ -6,7 +6,7 @@ ghost use Rattle.fips.specs.Editions.{known, width, digest_bytes};
 ghost use Rattle.fips.specs.Sizes.{sizes_number, sizes_told, Sized, is_narrow, width_of};
 
 // An edition's sizes, or that no edition has the number: 5.
-#[derive(Drop)]
+#[derive(Clone, Copy)]
 pub enum EditionSizes {
     Known { word: u64, block: u64, digest: u64 },
     Unknown,

@@ -10,12 +10,12 @@ use crate::HalfRead;
 use crate::sound::is_sound;
 use crate::tail::{padded, tail_length};
 use answers::Answer;
-use fips::lookup::block_bytes;
 use dwsha2::hashing::absorb;
 use dwsha2::limit::too_long;
+use fips::lookup::block_bytes;
 use slices::front::put_front;
 
-#[derive(Drop)]
+#[derive(Clone, Copy)]
 pub struct Added {
     pub answer: Answer,
     pub half: HalfRead,

@@ -11,7 +11,7 @@ pub mod close; // close.rt: the digest
 pub const TAIL: usize = 128;
 
 // The edition, the bytes taken, the chaining words, and the bytes after the last whole block with zeros behind them.
-#[derive(Drop)]
+#[derive(Clone, Copy)]
 pub struct HalfRead {
     pub edition: u64,
     pub count: u64,

@@ -9,7 +9,7 @@ use crate::Keyed;
 use crate::state::keeps_more;
 use answers::Answer;
 
-#[derive(Drop)]
+#[derive(Clone, Copy)]
 pub struct Added {
     pub answer: Answer,
     pub keyed: Keyed,

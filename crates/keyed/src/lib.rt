@@ -11,7 +11,7 @@ pub mod at_once; // at_once.rt: the tag of a whole message, made or compared
 use halfread::HalfRead;
 
 // The inner half-read message, which begins with the key's inner block, and the chaining words after the key's outer block.
-#[derive(Drop)]
+#[derive(Clone, Copy)]
 pub struct Keyed {
     pub inner: HalfRead,
     pub outer: [u64; 8],

@@ -15,7 +15,7 @@ use halfread::sound::below_width;
 use halfread::{HalfRead, TAIL};
 use dwsha2::limit::too_long;
 
-#[derive(Drop)]
+#[derive(Clone, Copy)]
 pub struct Started {
     pub answer: Answer,
     pub keyed: Keyed,

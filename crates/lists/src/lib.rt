@@ -30,7 +30,7 @@ pub const LONGEST: usize = fields::ENTRIES_AT
     + MOST_ENTRIES * (fields::ENTRY_HEAD + 64 + names::LONGEST);
 
 // What looking for a name finds, with its number.
-#[derive(Drop)]
+#[derive(Clone, Copy)]
 pub enum Found {
     // 0: its digest: where it starts in the list, and how long it is
     At { start: usize, len: usize },
@@ -42,7 +42,7 @@ pub enum Found {
 
 // What one reading of the bytes tells of a name: whether they are a list, how many of its names come before the name, and whether it has
 // the name.
-#[derive(Drop)]
+#[derive(Clone, Copy)]
 pub struct Placing {
     pub accepted: bool,
     pub earlier: usize,

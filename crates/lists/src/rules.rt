@@ -67,7 +67,7 @@ fn entry_right(list: &[u8], at: usize, last: usize, next: usize) -> bool
 }
 
 // What a walk over the entries tells: whether they are right, and, if they are, how many names come before the one that is looked for.
-#[derive(Drop)]
+#[derive(Clone, Copy)]
 pub(crate) struct Walked {
     pub(crate) right: bool,
     pub(crate) earlier: usize,

@@ -121,7 +121,7 @@ fn fields(bytes: &[u8]) -> HalfRead
     }
 }
 
-#[derive(Drop)]
+#[derive(Clone, Copy)]
 pub struct Loaded {
     pub answer: Answer,
     pub half: HalfRead,

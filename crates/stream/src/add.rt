@@ -16,7 +16,7 @@ use answers::Answer;
 use slices::front::put_front;
 use slices::places::rest_at;
 
-#[derive(Drop)]
+#[derive(Clone, Copy)]
 pub struct Added {
     pub answer: Answer,
     pub stream: Stream,

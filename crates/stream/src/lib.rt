@@ -15,7 +15,7 @@ pub const ROOTS: usize = 32 * NODE;
 
 // The finished chunks and how many bytes follow them; the roots of their full subtrees, largest first, and those bytes, with zeros behind
 // both.
-#[derive(Drop)]
+#[derive(Clone, Copy)]
 pub struct Stream {
     pub chunks: u64,
     pub further: u64,

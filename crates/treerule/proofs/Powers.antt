@@ -1,4 +1,4 @@
--- `power_below_lem` is the largest power of two below a number, from 2 on: `power_below_lem`.
+-- `power_below` is the largest power of two below a number, from 2 on: `power_below_lem`.
 use Prim.Native.Nat.{ℕ, zero, suc, ◌*◌, ◌^◌, ◌<◌, ◌≤◌}
 use mathlib.Core.Bool.{Bool, true, false, cond}
 use mathlib.Core.Path.{◌≡◌, refl}
@@ -6,7 +6,7 @@ use native.Mathlib.Omega.{arith}
 use lib.Dec.{ltb}
 use borrow.Author.Tests.{ltb-true, ltb-false}
 use Rattle.fips.proofs.Roots.{lt-two-pow}
-use Rattle.treerule.specs.Split.{power_to, power_below_lem}
+use Rattle.treerule.specs.Split.{power_to, power_below}
 
 -- k is the largest power of two below n
 pub record Largest (n k : ℕ) : Type 0 where
@@ -26,6 +26,6 @@ unfolding power_to
 power-to zero n many few = record { exponent = 0; is = refl; below = many; reaches = few }
 power-to (suc j) n many few = larger j n (ltb (2 ^ suc j) n) refl few (power-to j n many)
 
-pub power_below_lem : (n : ℕ) → 1 < n → Largest n (power_below_lem n)
-unfolding power_below_lem
+pub power_below_lem : (n : ℕ) → 1 < n → Largest n (power_below n)
+unfolding power_below
 power_below_lem n many = power-to n n many (omega (arith, lt-two-pow n))

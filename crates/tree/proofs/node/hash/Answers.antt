@@ -1,0 +1,8 @@
+-- `tree::node::hash` meets its contract: hash at once refuses nothing here. Assumes nothing.
+use mathlib.Core.Path.{refl}
+use borrow.Author.Rules.{rules}
+use Rattle.tree.proofs.Hashes.{hash-law}
+use Rattle.tree.proofs.node.hash.Goals as goal
+
+pub returns : goal.returns
+returns c = hash-law c.args.message.now _ c.requires refl c.hash.ensures
