@@ -77,7 +77,7 @@ pub fn close(table: &mut [u64], bay: u64, closing: u8, bits: u64, out: &mut [u8]
 }
 
 pub fn save(table: &[u64], bay: u64, out: &mut [u8]) -> Answer
-    ensures outcome { Outcome table.now (Call.saving bay out.old) (number_of result) table.now out.new }
+    ensures outcome { Outcome table.now (Call.saving bay out.old) (number_of result) table.exit.now out.new }
     ensures lends { Lends table.now (Call.saving bay out.old) }
 {
     let taken = taken_at(table, bay);

@@ -11,9 +11,9 @@ ghost use Rattle.keyed.specs.AtOnce.{length_tests, check_at_once_tests, Tags};
 use crate::outer::{TAG, tag_of};
 use crate::pads::{INNER, OUTER, block_key, words_after};
 use answers::Answer;
-use fips::lookup::{block_bytes, digest_bytes, known};
 use dwsha2::finish::finish;
 use dwsha2::limit::too_long;
+use fips::lookup::{block_bytes, digest_bytes, known};
 use slices::front::put_front;
 use slices::same::same_bytes;
 

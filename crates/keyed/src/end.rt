@@ -11,9 +11,9 @@ use crate::Keyed;
 use crate::outer::{TAG, tag_of};
 use crate::state::is_sound;
 use answers::Answer;
+use dwsha2::finish::finish;
 use fips::lookup::digest_bytes;
 use halfread::tail::tail_length;
-use dwsha2::finish::finish;
 use slices::front::put_front;
 use slices::same::same_bytes;
 

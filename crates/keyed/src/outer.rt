@@ -5,9 +5,9 @@ ghost use Rattle.keyed.specs.State.{tag_room};
 ghost use Rattle.keyed.specs.Steps.{outer_digest};
 ghost use Rattle.dwsha2.specs.Code.Hashing.{digest_from};
 
-use fips::lookup::{block_bytes, digest_bytes};
 use dwsha2::finish::finish;
 use dwsha2::hashing::write_digest;
+use fips::lookup::{block_bytes, digest_bytes};
 
 // The bytes of the longest tag.
 pub(crate) const TAG: usize = 64;

@@ -5,11 +5,11 @@ ghost use Rattle.halfread.specs.State.{padded};
 ghost use Rattle.hmac.specs.Hmac.{xored, B, block_key};
 ghost use Rattle.dwsha2.specs.Code.Hashing.{absorbed};
 
-use fips::lookup::block_bytes;
-use halfread::TAIL;
 use dwsha2::finish::finish;
 use dwsha2::hashing::{absorb, write_digest};
 use dwsha2::starting::starting_words;
+use fips::lookup::block_bytes;
+use halfread::TAIL;
 use slices::front::put_front;
 
 // The bytes that the key is xored with.

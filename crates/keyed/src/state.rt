@@ -10,10 +10,10 @@ ghost use Rattle.keyed.specs.Steps.{start_tests, started};
 use crate::Keyed;
 use crate::pads::{INNER, OUTER, block_key, words_after};
 use answers::Answer;
+use dwsha2::limit::too_long;
 use fips::lookup::{block_bytes, known, narrow};
 use halfread::sound::below_width;
 use halfread::{HalfRead, TAIL};
-use dwsha2::limit::too_long;
 
 #[derive(Clone, Copy)]
 pub struct Started {

@@ -1,0 +1,10 @@
+-- `lists::fields::number` meets its contract: up to eight bytes make a number that a word keeps whole. Assumes nothing.
+use mathlib.Core.Path.{◌∙◌}
+use borrow.Author.Rules.{rules}
+use Rattle.bigendian.proofs.RowLaws.{field-word64}
+use Rattle.lists.proofs.fields.number.Goals as goal
+
+pub returns : goal.returns
+returns c = let a = c.args in
+    c.field.ensures
+    ∙ field-word64 a.list.now a.at a.n (λ i. (c.shared_slice_known-1.given i).fits) c.requires

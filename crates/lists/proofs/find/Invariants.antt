@@ -1,0 +1,35 @@
+-- `lists::find` meets its contract. What is left from entry i on decides; it is right, since the list is accepted, so its names end within.
+-- Assumes nothing.
+use mathlib.Core.Bool.{true, false, cond}
+use mathlib.Core.List.{List, []}
+use mathlib.Core.Path.{◌≡◌, sym, ◌∙◌}
+use Prim.Native.Nat.{ℕ, ◌+◌, ◌-◌, ◌*◌, ◌<◌, ◌≤◌}
+use native.Mathlib.Nat.{sub-zero}
+use native.Mathlib.Omega.{arith}
+use borrow.Author.Tests.{not-true, not-false}
+use lib.ListN.{length, drop}
+use Rattle.lists.specs.declared.Found.{Found}
+use Rattle.slices.specs.Tests.{same}
+use Rattle.lists.specs.Layout.{entries_at, entry_head, entry_size, names_at, edition_in, count_in, digest_size_in, name_length, read_pairs}
+use Rattle.lists.specs.Layout.{read_list, accepted}
+use Rattle.slices.specs.Parts.{part}
+use Rattle.lists.specs.Code.Rules.{entry_right, entries_right}
+use Rattle.lists.proofs.ByRules.{accepted-header, accepted-entries}
+use Rattle.fips.proofs.Editions.{digest-short}
+use Rattle.lists.proofs.Places.{found, found_in, is_found}
+use Rattle.lists.proofs.Walk.{one_less, entries-on, entries-first, entry-fits, place-on, place-over}
+use Rattle.lists.proofs.find.Given as goal
+
+pub record Left (bs name : List ℕ) (count d at next i : ℕ) : Type 0 where
+  pub within : i ≤ count
+  pub room : at + (count - i) * entry_size d ≤ length bs
+  pub inside : next ≤ length bs
+  pub last : List ℕ
+  pub right : entries_right (count - i) (entry_size d) last next (drop at bs) bs ≡ true
+  pub decides : found bs name ≡ found_in name d at (read_pairs (count - i) d (drop at bs) bs)
+
+abbrev pub invariant-loop-i : goal.invariant-loop-i
+invariant-loop-i l = Left l.list l.name l.count l.digest l.at l.next l.i
+
+abbrev pub decreases-loop-i : goal.decreases-loop-i
+decreases-loop-i l = l.count - l.i
