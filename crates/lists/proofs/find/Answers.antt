@@ -76,17 +76,14 @@ refuse bs name e = rw e
 pub returns-then-not-is_list : goal.returns-then-not-is_list
 returns-then-not-is_list c = is_found _ _ _ (refuse _ _ (sym c.is_list.ensures ∙ c.if-not-is_list.true))
 
-abbrev first_of : After-digest_size-digest → Start
-first_of c = c
-
-is_one : (c : After-digest_size-digest) → accepted (first_of c).args.list.now ≡ true
+is_one : (c : After-digest_size-digest) → accepted c.args.list.now ≡ true
 is_one c = sym c.is_list.ensures ∙ c.if-not-is_list.false
 
 pub overflow_add-size : goal.overflow_add-size
-overflow_add-size c = omega (arith, c.digest_size-digest.ensures, digest-short (edition_in (first_of c).args.list.now))
+overflow_add-size c = omega (arith, c.digest_size-digest.ensures, digest-short (edition_in c.args.list.now))
 
 within : (c : After-digest_size-digest) →
-    names_at c.count-count.result c.digest_size-digest.result ≤ length (first_of c).args.list.now
+    names_at c.count-count.result c.digest_size-digest.result ≤ length c.args.list.now
 within c = names-inside _ _ _ (is_one c) c.count-count.ensures c.digest_size-digest.ensures
 
 pub loop-i-init : goal.loop-i-init

@@ -13,7 +13,7 @@ pub returns-in-NotListed : goal.returns-in-NotListed
 returns-in-NotListed c = let n = found_nowhere _ _ c.find.ensures c.in-NotListed.is in record { result_value = nowhere-none _ _ n.0 n.1; lies_at = lies-first refl refl refl }
 
 pub returns-in-NotAList : goal.returns-in-NotAList
-returns-in-NotAList c = (
-  no-list-none _ _ (found-no-list _ _ c.find.ensures c.in-NotAList.is),
-  lies-first refl refl refl,
-)
+returns-in-NotAList c = record {
+  result_value = no-list-none _ _ (found-no-list _ _ c.find.ensures c.in-NotAList.is);
+  lies_at = lies-first refl refl refl;
+}

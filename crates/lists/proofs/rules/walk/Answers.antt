@@ -98,10 +98,10 @@ loop-i-preserved c = turn _ _ _ _ _ _ _ _ _ c.loop-i.invariant _ c.loop-i-test.t
     _ c.part.ensures.result_value _ c.further-earlier.ensures
 
 pub returns : goal.returns
-returns c = (
-  whole _ _ _ _ _ _ _ _ _ c.loop-i.invariant c.loop-i-test.false,
-  λ e. placed _ _ _ _ _ _ _ _ _ c.loop-i.invariant c.loop-i-test.false,
-)
+returns c = record {
+  right_value = whole _ _ _ _ _ _ _ _ _ c.loop-i.invariant c.loop-i-test.false;
+  earlier_value = λ e. placed _ _ _ _ _ _ _ _ _ c.loop-i.invariant c.loop-i-test.false;
+}
 
 pub overflow_add-next-in-loop-i : goal.overflow_add-next-in-loop-i
 overflow_add-next-in-loop-i c = omega (arith, loop-i-preserved c)
