@@ -1,5 +1,5 @@
 -- `lines::count` meets its contract: the digits, and then what they count.
-use Rattle.std.proofs.Common.{◌∙◌, rules}
+use Rattle.std.proofs.Common.{◌∙◌}
 use Rattle.lines.proofs.Decimals.{decimal-digits}
 use Rattle.lines.proofs.Putting.{then, renamed}
 use Rattle.lines.proofs.count.Goals as goal

@@ -1,5 +1,4 @@
 -- `lines::counted` meets its contract.
-use Rattle.std.proofs.Common.{rules}
 use Rattle.lines.specs.Code.Counting.{counted}
 use Rattle.lines.proofs.counted.Goals as goal
 

@@ -1,5 +1,4 @@
 -- `lines::counts` meets its contract: four numbers, each with what it counts.
-use Rattle.std.proofs.Common.{rules}
 use Rattle.fips.specs.Constants.{ascii}
 use Rattle.lines.specs.Lines.{count_line}
 use Rattle.lines.proofs.Putting.{then}

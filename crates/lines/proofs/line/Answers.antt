@@ -1,5 +1,4 @@
 -- `lines::line` meets its contract: three texts, one behind the other.
-use Rattle.std.proofs.Common.{rules}
 use Rattle.fips.specs.Constants.{ascii}
 use Rattle.lines.specs.Lines.{line_of}
 use Rattle.lines.proofs.Putting.{then, renamed}

@@ -1,5 +1,4 @@
 -- `lines::not_a_list` meets its contract.
-use Rattle.std.proofs.Common.{rules}
 use Rattle.fips.specs.Constants.{ascii}
 use Rattle.lines.proofs.not_a_list.Goals as goal
 

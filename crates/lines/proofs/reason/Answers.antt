@@ -1,5 +1,4 @@
 -- `lines::reason` meets its contract: the name, and the words behind it.
-use Rattle.std.proofs.Common.{rules}
 use Rattle.lines.specs.Lines.{reason_line}
 use Rattle.lines.proofs.Putting.{then, renamed}
 use Rattle.lines.proofs.reason.Goals as goal

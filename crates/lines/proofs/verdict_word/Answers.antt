@@ -1,5 +1,4 @@
 -- `lines::verdict_word` meets its contract.
-use Rattle.std.proofs.Common.{rules}
 use Rattle.fips.specs.Constants.{ascii}
 use Rattle.lines.proofs.verdict_word.Goals as goal
 

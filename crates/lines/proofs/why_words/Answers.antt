@@ -1,5 +1,4 @@
 -- `lines::why_words` meets its contract.
-use Rattle.std.proofs.Common.{rules}
 use Rattle.fips.specs.Constants.{ascii}
 use Rattle.lines.proofs.why_words.Goals as goal
 

@@ -1,5 +1,5 @@
 -- `lines::text::append` meets its contract.
-use Rattle.std.proofs.Common.{arith, rules}
+use Rattle.std.proofs.Common.{arith}
 use Rattle.lines.proofs.Putting.{put-part}
 use Rattle.lines.proofs.text.append.Goals as goal
 
