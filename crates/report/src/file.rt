@@ -79,6 +79,7 @@ fn judge(table: &mut [u64], list: &[u8], i: usize) -> Verdict
 }
 
 // The verdict on the file of that number.
+#[tactic(auto, unfolding(crate::specs::Code::Files::ends_as, crate::specs::Code::Files::left_by))]
 pub fn verdict(ending: Ending, table: &mut [u64], list: &[u8], i: usize) -> Verdict
     ensures value { result ≡ ends_as ending table.old (edition_in list.now) (pair_in i list.now).digest }
     ensures table_after { table.new ≡ left_by ending table.old }
