@@ -111,7 +111,7 @@ pub fn unhex_all(s: &[u8], d: &mut [u8]) -> usize
     unhex(s, d)
 }
 
-#[derive(Drop)]
+#[derive(Clone, Copy)]
 pub enum Number {
     Is(u64),
     Not,

@@ -132,7 +132,7 @@ past_all : {L : ℕ} {t : List ℕ} {l : List Slot} → Follows L t l → (m : �
 unfolding table_of
 past_all f m h [] g w = refl
 past_all {L} {t} {l} f m h (c ∷ cs) g w =
-    past_all (still-follows f c g.0) m (slots-within L l c m h w.0) cs g.1 w.1
+    past_all {t = (run t c).table} (still-follows f c g.0) m (slots-within L l c m h w.0) cs g.1 w.1
     ∙ callers-words t c m (reached t c m (rw f.count h) w.0)
 
 -- the words past the most bays that were laid out are at the end what they were at the beginning

@@ -76,14 +76,15 @@ pub follows-all : {L : ℕ} {t : List ℕ} {l : List Slot} → Follows L t l →
     seen_of t calls ≡ said_of L l calls
 unfolding seen_of said_of
 follows-all f [] g = refl
-follows-all f (c ∷ cs) g =
-    ap₂ (λ (s : Seen) (ss : List Seen). s ∷ ss) (same_seen f c g.0) (follows-all (still-follows f c g.0) cs g.1)
+follows-all {L = L} {t = t} {l = l} f (c ∷ cs) g =
+    ap₂ (λ (s : Seen) (ss : List Seen). s ∷ ss) (same_seen f c g.0)
+    (follows-all {t = (run t c).table} (still-follows f c g.0) cs g.1)
 
 pub follows-after : {L : ℕ} {t : List ℕ} {l : List Slot} → Follows L t l → (calls : List Call) → AllPassed calls →
     Follows L (table_of t calls) (slots_after L l calls)
 unfolding table_of slots_after
 follows-after f [] g = f
-follows-after f (c ∷ cs) g = follows-after (still-follows f c g.0) cs g.1
+follows-after {L = L} {t = t} {l = l} f (c ∷ cs) g = follows-after {t = (run t c).table} (still-follows f c g.0) cs g.1
 
 pub laid : (words : List ℕ) (n : ℕ) → (run words (lay_out n)).seen.answer ≡ 0 →
     Follows (length words) (run words (lay_out n)).table (replicate n nothing)

@@ -5,7 +5,7 @@ use mathlib.Core.Bool.{Bool, true, false, cond}
 use mathlib.Core.List.{List, [], ◌∷◌}
 use mathlib.Core.Path.{◌≡◌, refl, sym, subst}
 use lib.ListN.{get_or}
-use denote.Ref.{Bor}
+use denote.Ref.{Bor, MutBor}
 use denote.Triple.Clauses.{Ended, Lasts, at_exit}
 use denote.Triple.Entry.{Args, Res}
 use contract.Lifetimes.{Lfts}
@@ -101,6 +101,10 @@ asked t i = record { answer = number-named t (asking i); leaves = refl }
 abbrev pub slice : List ℕ → Bor (List ℕ)
 slice xs = record { ref_ptr = (0, 0); now = xs }
 
+-- the same lent to be written
+abbrev pub lent_slice : List ℕ → MutBor (List ℕ)
+lent_slice xs = record { ref_ptr = (0, 0); ghost_name = 0; now = xs }
+
 -- a call that was made
 pub record Some (D : Doing) (t : List ℕ) (c : Call) : Type 0 where
   pub seen : Seen
@@ -120,29 +124,29 @@ code-some : (t : List ℕ) (c : Call) → Lends t c → Some Did t c
 unfolding leaves
 code-some t (lay_out n) l =
     let c = lay_out n in
-    some Did (lay-out-did (call ([], tt) (slice t, (n, tt)) (answered t c) ((left t c).table, (tt, tt)) (alone t c refl refl, l)))
+    some Did (lay-out-did (call ([], tt) (lent_slice t, (n, tt)) (answered t c) ((left t c).table, (tt, tt)) (alone t c refl refl, l)))
 code-some t (opening i e) l =
     let c = opening i e in
-    some Did (open-did (call ([], tt) (slice t, (i, (e, tt))) (answered t c) ((left t c).table, (tt, (tt, tt))) (alone t c refl refl, l)))
+    some Did (open-did (call ([], tt) (lent_slice t, (i, (e, tt))) (answered t c) ((left t c).table, (tt, (tt, tt))) (alone t c refl refl, l)))
 code-some t (adding i piece) l =
     let c = adding i piece in
     some Did (add-did
-    (call ([], ([], tt)) (slice t, (i, (slice piece, tt))) (answered t c)
+    (call ([], ([], tt)) (lent_slice t, (i, (slice piece, tt))) (answered t c)
     ((left t c).table, (tt, (tt, tt))) (alone t c refl refl, l)))
 code-some t (closing i x b out) l =
     let c = closing i x b out in
     some Did (close-did
-    (call ([], ([], tt)) (slice t, (i, (x, (b, (slice out, tt))))) (answered t c)
+    (call ([], ([], tt)) (lent_slice t, (i, (x, (b, (lent_slice out, tt))))) (answered t c)
     ((left t c).table, (tt, (tt, (tt, ((left t c).output, tt))))) (both t c, l)))
 code-some t (saving i out) l =
     let c = saving i out in
     some Did (save-did
-    (call ([], ([], tt)) (slice t, (i, (slice out, tt))) (answered t c)
+    (call ([], ([], tt)) (slice t, (i, (lent_slice out, tt))) (answered t c)
     (tt, (tt, ((left t c).output, tt))) (kept t c refl, l)))
 code-some t (loading i bytes) l =
     let c = loading i bytes in
     some Did (load-did
-    (call ([], ([], tt)) (slice t, (i, (slice bytes, tt))) (answered t c)
+    (call ([], ([], tt)) (lent_slice t, (i, (slice bytes, tt))) (answered t c)
     ((left t c).table, (tt, (tt, tt))) (alone t c refl refl, l)))
 code-some t (asking i) l =
     let c = asking i in
@@ -151,7 +155,7 @@ code-some t (asking i) l =
     (tt, (tt, tt)) (asked t i, l)))
 code-some t (dropping i) l =
     let c = dropping i in
-    some Did (drop-did (call ([], tt) (slice t, (i, tt)) (answered t c) ((left t c).table, (tt, tt)) (alone t c refl refl, l)))
+    some Did (drop-did (call ([], tt) (lent_slice t, (i, tt)) (answered t c) ((left t c).table, (tt, tt)) (alone t c refl refl, l)))
 
 -- ---- traces
 

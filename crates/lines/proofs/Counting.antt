@@ -29,25 +29,23 @@ pub record Room (t : Tally) (n : ℕ) : Type 0 where
 more-by-one : (n m : ℕ) → n ≤ m → m + 1 < 2 ^ 64 → one_more n ≡ n + 1
 more-by-one n m h k = mod-eq_of_lt (omega arith)
 
+listed-more : (t : Tally) (n : ℕ) → Room t (suc n) → one_more t.listed ≡ t.listed + 1
+listed-more t n r = more-by-one t.listed t.listed (omega arith) (omega (arith, r.room))
+
 -- one verdict is counted
 pub count-one : (t : Tally) (v : Verdict) (n : ℕ) → Room t (suc n) → counted t v ≡ plus t (v ∷ [])
 unfolding counted sum
-count-one t v n r =
-    let listed = more-by-one t.listed t.listed (omega arith) (omega (arith, r.room)) in
-    elim v [
-      | Verdict.Ok ↦ tally-eq listed (more-by-one t.ok t.listed r.oks (omega (arith, r.room))) (omega arith) (omega arith)
-      | Verdict.Bad ↦ tally-eq listed (omega arith) (more-by-one t.bad t.listed r.bads (omega (arith, r.room))) (omega arith)
-      | Verdict.Missing why ↦
-          tally-eq listed (omega arith) (omega arith) (more-by-one t.missing t.listed r.missings (omega (arith, r.room)))
-    ]
+count-one t Verdict.Ok n r =
+    tally-eq (listed-more t n r) (more-by-one t.ok t.listed r.oks (omega (arith, r.room))) (omega arith) (omega arith)
+count-one t Verdict.Bad n r =
+    tally-eq (listed-more t n r) (omega arith) (more-by-one t.bad t.listed r.bads (omega (arith, r.room))) (omega arith)
+count-one t (Verdict.Missing why) n r =
+    tally-eq (listed-more t n r) (omega arith) (omega arith) (more-by-one t.missing t.listed r.missings (omega (arith, r.room)))
 
 pub at_most_one : (v : Verdict) → (is_ok v ≤ 1) × (is_bad v ≤ 1) × (is_missing v ≤ 1)
-at_most_one v =
-    elim v [
-      | Verdict.Ok ↦ (omega arith, omega arith, omega arith)
-      | Verdict.Bad ↦ (omega arith, omega arith, omega arith)
-      | Verdict.Missing why ↦ (omega arith, omega arith, omega arith)
-    ]
+at_most_one Verdict.Ok = (omega arith, omega arith, omega arith)
+at_most_one Verdict.Bad = (omega arith, omega arith, omega arith)
+at_most_one (Verdict.Missing why) = (omega arith, omega arith, omega arith)
 
 pub room-one : (t : Tally) (v : Verdict) (n : ℕ) → Room t (suc n) → Room (plus t (v ∷ [])) n
 unfolding sum

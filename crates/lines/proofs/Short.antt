@@ -20,7 +20,9 @@ use Rattle.lines.proofs.Counting.{at_most_one}
 
 word-short : (v : Verdict) → length (ascii (verdict_word v)) ≤ 8
 unfolding ascii
-word-short v = elim v [ Verdict.Ok ↦ omega arith | Verdict.Bad ↦ omega arith | Verdict.Missing why ↦ omega arith ]
+word-short Verdict.Ok = omega arith
+word-short Verdict.Bad = omega arith
+word-short (Verdict.Missing why) = omega arith
 
 pub length_pairs : (bs : List ℕ) → length (read_list bs).pairs ≡ count_in bs
 unfolding read_list
@@ -44,8 +46,10 @@ line-whole bs i v a h out long =
 
 pub words-short : (why : Why) → length (ascii (why_words why)) ≤ 17
 unfolding ascii
-words-short why =
-    elim why [ Why.NotThere ↦ omega arith | Why.NoPermission ↦ omega arith | Why.Folder ↦ omega arith | Why.Failed ↦ omega arith ]
+words-short Why.NotThere = omega arith
+words-short Why.NoPermission = omega arith
+words-short Why.Folder = omega arith
+words-short Why.Failed = omega arith
 
 pub reason-whole : (bs : List ℕ) (i : ℕ) (why : Why) → accepted bs ≡ true → i < count_in bs → (out : List ℕ) → length out ≡ line_room →
     take (behind 0 (reason_line why (pair_in i bs).name) out) (put 0 (reason_line why (pair_in i bs).name) out)

@@ -17,7 +17,7 @@ use crate::text::append;
 // The bytes in which every line is whole.
 pub const ROOM: usize = 128;
 
-#[derive(Drop)]
+#[derive(Clone, Copy)]
 pub enum Verdict {
     // its bytes have the digest that is listed
     Ok,
@@ -28,7 +28,7 @@ pub enum Verdict {
 }
 
 // Why a file is missing.
-#[derive(Drop)]
+#[derive(Clone, Copy)]
 pub enum Why {
     // no file of that name is there
     NotThere,
@@ -41,7 +41,7 @@ pub enum Why {
 }
 
 // How many files were judged, and how many of them each way.
-#[derive(Drop)]
+#[derive(Clone, Copy)]
 pub struct Tally {
     pub listed: u64,
     pub ok: u64,

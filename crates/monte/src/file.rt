@@ -1,8 +1,12 @@
 // The file of Monte Carlo vectors, which is read whole: how many lines it has, and how many of them hold.
+ghost use Rattle.std.specs.Prelude.{◌≤◌, length, IfOk};
+
 use crate::line::Chain;
+use std::fs::{File, Files};
+use std::io::{self, ErrorKind, Read};
 
 // How far the text is judged: where the next line starts, the lines so far and those that hold, and what the last line hands on.
-#[derive(Drop)]
+#[derive(Clone, Copy)]
 struct Tally {
     at: usize,
     lines: u64,
@@ -53,20 +57,29 @@ fn all(text: &[u8]) -> Tally {
     tally
 }
 
-// Writes the file's name, how many of its lines hold, and how many it has. What is longer than the buffer is cut, and some line is missing.
-pub(crate) fn report(name: &[u8]) {
-    let fd = os::open_read(name);
-    if fd < 0 {
-        os::fail(name);
+// Reads until the buffer is full or the file ends, and answers how many bytes came. A read that a signal interrupts is made again.
+fn filled<R: Read>(from: &mut R, buffer: &mut [u8]) -> io::Result<usize>
+    ensures { IfOk result (λ n. n ≤ length buffer.new) }
+{
+    let mut n = 0;
+    for _ in 0..u64::MAX {
+        match from.read(&mut buffer[n..]) {
+            Ok(0) => break,
+            Ok(more) => n += more,
+            Err(e) => {
+                if e.kind() != ErrorKind::Interrupted {
+                    return Err(e);
+                }
+            }
+        }
     }
-    let mut buffer = io::large_buffer();
-    let n = io::read_full(fd, &mut buffer);
-    libc::close(fd);
+    Ok(n)
+}
+
+// Writes the file's name, how many of its lines hold, and how many it has. What is longer than the buffer is cut, and some line is missing.
+pub(crate) fn report<R: Files + Print>(rt: &R, name: &str) -> io::Result<()> {
+    let mut buffer = [0u8; 65536];
+    let n = filled(&mut File::open(rt, name)?, &mut buffer)?;
     let tally = all(slices::places::part(&buffer, 0, n));
-    io::write_all(1, name);
-    io::write_all(1, b" ");
-    io::print_decimal(1, tally.passed);
-    io::write_all(1, b" of ");
-    io::print_decimal(1, tally.lines);
-    io::write_all(1, b"\n");
+    println!(rt; "{name} {} of {}", tally.passed, tally.lines)
 }

@@ -1,6 +1,7 @@
 // A line of NIST's Monte Carlo test: `edition count seed hexdigest`, `-` where the seed is the digest of the line before. The digest is
 // reached from the seed three times by a thousand turns: each hashes the last three digests, one after the other.
 use hexlines::Number;
+use slices::same::same_bytes;
 
 // The first n bytes of an array of 64.
 fn digest_front(bytes: &[u8; 64], n: usize) -> &[u8] {
@@ -75,7 +76,7 @@ fn run(edition: u64, last: &mut [u8; 64], n: usize) -> bool {
 }
 
 // What a line hands on: its edition and the bytes of its digest; and whether it holds.
-#[derive(Drop)]
+#[derive(Clone, Copy)]
 pub struct Chain {
     pub edition: u64,
     pub size: usize,
@@ -84,7 +85,7 @@ pub struct Chain {
 
 // The bytes of the seed that the text names and that goes to `last`; where the text is `-`, those of the digest that is there.
 fn seed(text: &[u8], edition: u64, before: Chain, last: &mut [u8; 64]) -> usize {
-    if check::same(text, b"-") {
+    if same_bytes(text, b"-") {
         if edition == before.edition {
             return before.size;
         }
@@ -96,7 +97,7 @@ fn seed(text: &[u8], edition: u64, before: Chain, last: &mut [u8; 64]) -> usize 
 fn reached(last: &[u8; 64], n: usize, text: &[u8]) -> bool {
     let mut expected = [0u8; 64];
     let m = hexlines::unhex_all(text, &mut expected);
-    check::same(digest_front(last, n), digest_front(&expected, m))
+    same_bytes(digest_front(last, n), digest_front(&expected, m))
 }
 
 // Judges a line, after the line before, whose digest `last` holds.

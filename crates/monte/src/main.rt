@@ -5,6 +5,8 @@
 mod file;
 mod line;
 
-fn main() {
-    file::report(b"nist_byte_monte.txt");
+use std::io;
+
+fn main(rt: HostRuntime) -> io::Result<()> {
+    file::report(&rt, "nist_byte_monte.txt")
 }

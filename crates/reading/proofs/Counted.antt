@@ -2,9 +2,8 @@
 use Prim.Native.Nat.{ℕ}
 use mathlib.Core.List.{List}
 use mathlib.Core.Path.{◌≡◌, subst}
-use Rattle.io.specs.Counts.{IsPrefixLen}
 use Rattle.reading.specs.declared.Filled.{Filled}
 use Rattle.reading.specs.Filled.{Fills}
 
-pub counted : (buffer : List ℕ) {r : Filled} {n : ℕ} → r ≡ Filled.Bytes n → Fills r buffer → IsPrefixLen n buffer
+pub counted : (buffer : List ℕ) {r : Filled} {n : ℕ} → r ≡ Filled.Bytes n → Fills r buffer → Fills (Filled.Bytes n) buffer
 counted buffer e f = subst (λ (q : Filled). Fills q buffer) e f

@@ -10,9 +10,11 @@ ghost use Rattle.reading.specs.Filled.{Fills};
 
 use lines::Why;
 use report::{Brought, Ending, Turn, file, reads};
+use std::fs::{self, Files};
+use std::io::{self, ErrorKind, Read};
 
 // What came of reading a file into a buffer.
-#[derive(Drop)]
+#[derive(Clone, Copy)]
 pub enum Filled {
     // so many bytes at its front: all of the file, or as many as there is room for
     Bytes(usize),
@@ -20,66 +22,85 @@ pub enum Filled {
     Failed,
 }
 
+// The number of an error, as Linux has them; 0, which is none of them, where it is the library's own.
+fn number(error: &io::Error) -> i32 {
+    match error.raw_os_error() {
+        Some(n) => n,
+        None => 0,
+    }
+}
+
+// What a read answered as `report` reads it: its number of bytes, or one below 0 and the number of the error.
+fn answered(got: io::Result<usize>) -> (isize, i32) {
+    match got {
+        Ok(n) => match isize::try_from(n) {
+            Ok(n) => (n, 0),
+            Err(_) => (-1, 0),
+        },
+        Err(e) => (-1, number(&e)),
+    }
+}
+
 // The rest of a file at the front of a buffer.
-pub fn rest(fd: i32, buffer: &mut [u8]) -> Filled
+pub fn rest<R: Read>(from: &mut R, buffer: &mut [u8]) -> Filled
     ensures { Fills result buffer.new }
 {
     let mut n = 0;
-    let mut turns = u64::MAX;
-    while turns > 0 {
-        let got = libc::read(fd, &mut buffer[n..]);
-        let what = reads::brought(got, os::errno());
-        if let Brought::Nothing(_) = what {
-            return Filled::Failed;
+    for _ in 0..u64::MAX {
+        match from.read(&mut buffer[n..]) {
+            Ok(0) => return Filled::Bytes(n),
+            Ok(more) => n += more,
+            Err(e) => {
+                if e.kind() != ErrorKind::Interrupted {
+                    return Filled::Failed;
+                }
+            }
         }
-        if let Brought::End = what {
-            return Filled::Bytes(n);
-        }
-        n += io::count(got, &buffer[n..]);
-        turns -= 1;
     }
     Filled::Failed
 }
 
+// Opens a file by its name. A name that is no UTF-8 text is one of no file here.
+fn open<F: Files>(files: &F, name: &[u8]) -> io::Result<F::File> {
+    match std::str::from_utf8(name) {
+        Ok(name) => fs::File::open(files, name),
+        Err(_) => Err(io::Error::from(ErrorKind::InvalidFilename)),
+    }
+}
+
 // The same of a file by its name.
-pub fn whole(name: &[u8], buffer: &mut [u8]) -> Filled
+pub fn whole<F: Files>(files: &F, name: &[u8], buffer: &mut [u8]) -> Filled
     ensures { Fills result buffer.new }
 {
-    let fd = os::open_read(name);
-    if fd < 0 {
-        return Filled::Failed;
+    match open(files, name) {
+        Ok(mut from) => rest(&mut from, buffer),
+        Err(_) => Filled::Failed,
     }
-    let filled = rest(fd, buffer);
-    libc::close(fd);
-    filled
 }
 
 // Takes the rest of the file, piece by piece.
-fn pieces(fd: i32, table: &mut [u64]) -> Ending
+fn pieces<R: Read>(from: &mut R, table: &mut [u64]) -> Ending
     ensures { Reading table.old result table.new }
 {
     let mut piece = [0u8; 4096];
-    let mut turns = u64::MAX;
-    while turns > 0 {
-        let got = libc::read(fd, &mut piece);
-        if let Turn::Ends(ending) = file::turn(table, &piece, got, os::errno()) {
+    for _ in 0..u64::MAX {
+        let (got, errno) = answered(from.read(&mut piece));
+        if let Turn::Ends(ending) = file::turn(table, &piece, got, errno) {
             return ending;
         }
-        turns -= 1;
     }
     Ending::Unread(Why::Failed)
 }
 
 // Leads a file through the bay of the table, in the list's edition.
-pub fn through(name: &[u8], list: &[u8], table: &mut [u64]) -> Ending
+pub fn through<F: Files>(files: &F, name: &[u8], list: &[u8], table: &mut [u64]) -> Ending
     ensures { (f : File) × Led table.old (edition_in list.now) f result table.new }
 {
-    let fd = os::open_read(name);
-    if fd < 0 {
-        return Ending::Unread(reads::reason(os::errno()));
+    match open(files, name) {
+        Ok(mut from) => {
+            file::begin(table, list);
+            pieces(&mut from, table)
+        }
+        Err(e) => Ending::Unread(reads::reason(number(&e))),
     }
-    file::begin(table, list);
-    let ending = pieces(fd, table);
-    libc::close(fd);
-    ending
 }

@@ -1,6 +1,6 @@
 // A file through the first bay of a table: begun, its pieces taken one after the other, and judged at its end, SPEC, "The program".
 // The caller's table has room for one bay; each contract says what is left of it.
-ghost use Rattle.std.specs.Prelude.{◌≡◌};
+ghost use Rattle.std.specs.Prelude.{◌≡◌, ◌≤◌, length, take};
 ghost use Rattle.slices.specs.Below.{Bytes};
 ghost use Rattle.lists.specs.Calls.{pair_in};
 ghost use Rattle.lists.specs.Layout.{edition_in};
@@ -10,6 +10,7 @@ ghost use Rattle.report.specs.Code.Files.{begun, after_piece, fits, turn_of, aft
 use crate::{Brought, Ending, Turn, reads};
 use lines::Verdict;
 use lists::entries;
+use slices::places::least;
 
 // The bay is laid out anew, so that nothing of the last file is left.
 pub fn begin(table: &mut [u64], list: &[u8])
@@ -27,7 +28,20 @@ fn take(table: &mut [u64], piece: &[u8]) -> bool
     answers::number(calls::add(table, 0, piece)) == 0
 }
 
+// How many bytes the piece has that a read answered: none where it failed, and never more than the buffer.
+fn count(got: isize, buffer: &[u8]) -> usize
+    ensures within { result ≤ length buffer.now }
+    ensures value { take result buffer.now ≡ piece got buffer.now }
+{
+    if got > 0 {
+        least(got as usize, buffer.len())
+    } else {
+        0
+    }
+}
+
 // What a read into a buffer answered is seen to: its bytes are taken, or reading ends. The caller is told that they are bytes.
+#[tactic(auto, unfolding(crate::specs::Code::Files::turn_of, crate::specs::Code::Files::after_turn))]
 pub fn turn(table: &mut [u64], buffer: &[u8], got: isize, errno: i32) -> Turn
     ensures value { result ≡ turn_of table.old (piece got buffer.now) (brought got errno) }
     ensures table_after { table.new ≡ after_turn table.old (piece got buffer.now) (brought got errno) }
@@ -35,7 +49,7 @@ pub fn turn(table: &mut [u64], buffer: &[u8], got: isize, errno: i32) -> Turn
 {
     match reads::brought(got, errno) {
         Brought::Bytes => {
-            let n = io::count(got, buffer);
+            let n = count(got, buffer);
             if take(table, &buffer[..n]) {
                 Turn::GoesOn
             } else {
@@ -65,6 +79,7 @@ fn judge(table: &mut [u64], list: &[u8], i: usize) -> Verdict
 }
 
 // The verdict on the file of that number.
+#[tactic(auto, unfolding(crate::specs::Code::Files::ends_as, crate::specs::Code::Files::left_by))]
 pub fn verdict(ending: Ending, table: &mut [u64], list: &[u8], i: usize) -> Verdict
     ensures value { result ≡ ends_as ending table.old (edition_in list.now) (pair_in i list.now).digest }
     ensures table_after { table.new ≡ left_by ending table.old }

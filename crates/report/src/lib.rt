@@ -8,7 +8,7 @@ pub mod reads; // reads.rt: what the answer of a read says
 use lines::Why;
 
 // How reading a file ended.
-#[derive(Drop)]
+#[derive(Clone, Copy)]
 pub enum Ending {
     // all of its bytes were taken
     Whole,
@@ -19,7 +19,7 @@ pub enum Ending {
 }
 
 // What a read brought.
-#[derive(Drop)]
+#[derive(Clone, Copy)]
 pub enum Brought {
     // bytes, at the front of its buffer
     Bytes,
@@ -32,7 +32,7 @@ pub enum Brought {
 }
 
 // Whether reading goes on after a read, or how it ended.
-#[derive(Drop)]
+#[derive(Clone, Copy)]
 pub enum Turn {
     GoesOn,
     Ends(Ending),

@@ -5,13 +5,28 @@ ghost use Rattle.report.specs.Reads.{why_of, brought};
 use crate::Brought;
 use lines::Why;
 
+// The numbers of errors, as Linux has them.
+const EPERM: i32 = 1;
+
+const ENOENT: i32 = 2;
+
+const EINTR: i32 = 4;
+
+const EACCES: i32 = 13;
+
+const ENOTDIR: i32 = 20;
+
+const EISDIR: i32 = 21;
+
+const ELOOP: i32 = 40;
+
 pub fn reason(errno: i32) -> Why
     ensures { result ≡ why_of errno }
 {
     match errno {
-        libc::ENOENT | libc::ENOTDIR | libc::ELOOP => Why::NotThere,
-        libc::EPERM | libc::EACCES => Why::NoPermission,
-        libc::EISDIR => Why::Folder,
+        ENOENT | ENOTDIR | ELOOP => Why::NotThere,
+        EPERM | EACCES => Why::NoPermission,
+        EISDIR => Why::Folder,
         _ => Why::Failed,
     }
 }
@@ -25,7 +40,7 @@ pub fn brought(got: isize, errno: i32) -> Brought
     if got == 0 {
         return Brought::End;
     }
-    if errno == libc::EINTR {
+    if errno == EINTR {
         return Brought::Again;
     }
     Brought::Nothing(reason(errno))

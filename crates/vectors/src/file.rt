@@ -1,8 +1,11 @@
 // A file of vectors, line by line: how many lines it has, and how many of them hold.
 use slices::places::part;
+use std::fs::File;
+use std::io;
+use std::os::unix::fs::FileExt;
 
 // How far a file is read: where the next line starts, whether there was one, the lines so far and those that hold.
-#[derive(Drop)]
+#[derive(Clone, Copy)]
 struct Tally {
     at: u64,
     more: bool,
@@ -39,51 +42,33 @@ fn first(text: &[u8], tally: Tally) -> Tally {
     counted(tally, std::num::wrapping_add_u64(next, 1), holds)
 }
 
-// An offset for C, which a file of vectors does not pass.
-fn offset(at: u64) -> i64 {
-    if at < 1_000_000_000_000 {
-        return at as i64;
-    }
-    0
-}
-
 // Reads from where the next line starts, and counts it.
-fn next(fd: i32, tally: Tally) -> Tally {
+fn next(file: &File, tally: Tally) -> io::Result<Tally> {
     let mut buffer = [0u8; 32768];
-    let got = libc::pread(fd, &mut buffer, offset(tally.at));
-    let n = io::count(got, &buffer);
-    first(part(&buffer, 0, n), tally)
+    let n = file.read_at(&mut buffer, tally.at)?;
+    Ok(first(&buffer[..n], tally))
 }
 
-// Nothing says that a file ends, so the loop counts its turns down, from a number that no run uses up.
-fn all(fd: i32) -> Tally {
+// Nothing says that a file ends, so the loop counts its turns, up to a number that no run reaches.
+fn all(file: &File) -> io::Result<Tally> {
     let mut tally = Tally {
         at: 0,
         more: true,
         lines: 0,
         passed: 0,
     };
-    let mut turns = u64::MAX;
-    while turns > 0 && tally.more {
-        let t = next(fd, tally);
-        tally = t;
-        turns -= 1;
+    for _ in 0..u64::MAX {
+        if !tally.more {
+            break;
+        }
+        tally = next(file, tally)?;
     }
-    tally
+    Ok(tally)
 }
 
-// Writes the file's name, how many of its lines hold, and how many it has. A file that cannot be opened has no lines.
-pub(crate) fn report(name: &[u8]) {
-    let fd = os::open_read(name);
-    if fd < 0 {
-        os::fail(name);
-    }
-    let tally = all(fd);
-    libc::close(fd);
-    io::write_all(1, name);
-    io::write_all(1, b" ");
-    io::print_decimal(1, tally.passed);
-    io::write_all(1, b" of ");
-    io::print_decimal(1, tally.lines);
-    io::write_all(1, b"\n");
+// Writes the file's name, how many of its lines hold, and how many it has.
+pub(crate) fn report(rt: &HostRuntime, name: &str) -> io::Result<()> {
+    let file = File::open(rt, name)?;
+    let tally = all(&file)?;
+    println!(rt; "{name} {} of {}", tally.passed, tally.lines)
 }

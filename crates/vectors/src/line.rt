@@ -2,13 +2,14 @@
 // whose length is no multiple of eight, the last bits are the upper ones of its last byte.
 use hexlines::Number;
 use slices::places::part;
+use slices::same::same_bytes;
 
 // Whether the digest of the message, bytes and closing bits, is the one expected.
 fn digest_is(edition: u64, message: &[u8], closing: u8, bits: u64, expected: &[u8]) -> bool {
     let n = fips::lookup::digest_bytes(edition);
     let mut out = [0u8; 64];
     let answer = dwsha2::hash::hash(edition, message, closing, bits, &mut out);
-    let right = check::same(part(&out, 0, n), expected);
+    let right = same_bytes(part(&out, 0, n), expected);
     answers::number(answer) == 0 && right
 }
 
@@ -62,10 +63,10 @@ fn hex_digest_is(edition: u64, bits: u64, text: &[u8], expected: &[u8]) -> bool 
 }
 
 fn message_digest_is(edition: u64, bits: u64, text: &[u8], expected: &[u8]) -> bool {
-    if check::same(text, b"-") {
+    if same_bytes(text, b"-") {
         return bits_digest_is(edition, bits, part(text, 0, 0), expected);
     }
-    if check::same(text, b"a*1000000") {
+    if same_bytes(text, b"a*1000000") {
         return bits == 8000000 && million(edition, expected);
     }
     hex_digest_is(edition, bits, text, expected)

@@ -5,9 +5,11 @@
 mod file;
 mod line;
 
-fn main() {
-    file::report(b"nist_byte_short.txt");
-    file::report(b"nist_byte_long.txt");
-    file::report(b"rfc6234_byte.txt");
-    file::report(b"rfc6234_bit.txt");
+use std::io;
+
+fn main(rt: HostRuntime) -> io::Result<()> {
+    file::report(&rt, "nist_byte_short.txt")?;
+    file::report(&rt, "nist_byte_long.txt")?;
+    file::report(&rt, "rfc6234_byte.txt")?;
+    file::report(&rt, "rfc6234_bit.txt")
 }

@@ -10,51 +10,52 @@ use lines::{Tally, Verdict};
 use lists::entries;
 use reading::Filled;
 use report::file;
+use std::io::{Stderr, Stdout};
 
 // Writes the line of n bytes at the front of a buffer.
-fn write(fd: i32, out: &[u8], n: usize) -> bool {
+fn write<W: Print>(to: &W, out: &[u8], n: usize) -> bool {
     if out.len() < n {
         return false;
     }
-    io::write_all(fd, &out[0..n])
+    to.write_all(&out[..n]).is_ok()
 }
 
-fn verdict(list: &[u8], i: usize, table: &mut [u64]) -> Verdict
+fn verdict(list: &[u8], i: usize, table: &mut [u64], rt: &HostRuntime) -> Verdict
     ensures { Verdicted list.now i table.old result }
 {
-    let ending = reading::through(entries::name(list, i), list, table);
+    let ending = reading::through(rt, entries::name(list, i), list, table);
     file::verdict(ending, table, list, i)
 }
 
-fn write_line(verdict: Verdict, list: &[u8], i: usize) -> bool {
+fn write_line(to: &Stdout, verdict: Verdict, list: &[u8], i: usize) -> bool {
     let mut out = [0u8; lines::ROOM];
     let n = lines::line(verdict, list, i, &mut out);
-    write(libc::STDOUT_FILENO, &out, n)
+    write(to, &out, n)
 }
 
 // A reason that cannot be written is lost, and the check goes on: what is said of the files is on standard output.
-fn write_reason(verdict: Verdict, list: &[u8], i: usize) {
+fn write_reason(to: &Stderr, verdict: Verdict, list: &[u8], i: usize) {
     if let Verdict::Missing(why) = verdict {
         let mut out = [0u8; lines::ROOM];
         let n = lines::reason(why, list, i, &mut out);
-        write(libc::STDERR_FILENO, &out, n);
+        write(to, &out, n);
     }
 }
 
-fn write_counts(tally: Tally) {
+fn write_counts(to: &Stdout, tally: Tally) {
     let mut out = [0u8; lines::ROOM];
     let n = lines::counts(tally, &mut out);
-    write(libc::STDOUT_FILENO, &out, n);
+    write(to, &out, n);
 }
 
-fn write_not_a_list() {
+fn write_not_a_list(to: &Stdout) {
     let mut out = [0u8; lines::ROOM];
     let n = lines::not_a_list(&mut out);
-    write(libc::STDOUT_FILENO, &out, n);
+    write(to, &out, n);
 }
 
 // A line that cannot be written ends the program, so that what is written is always the beginning of what is to be.
-fn check(list: &[u8]) {
+fn check(list: &[u8], rt: &HostRuntime) {
     let mut table = [0u64; bays::table::ONE_BAY];
     let mut tally = Tally {
         listed: 0,
@@ -62,29 +63,26 @@ fn check(list: &[u8]) {
         bad: 0,
         missing: 0,
     };
-    let mut i = 0;
-    while i < entries::count(list) {
-        let v = verdict(list, i, &mut table);
-        if !write_line(v, list, i) {
+    for i in 0..entries::count(list) {
+        let v = verdict(list, i, &mut table, rt);
+        if !write_line(&rt.stdout(), v, list, i) {
             return;
         }
-        write_reason(v, list, i);
-        let t = lines::counted(tally, v);
-        tally = t;
-        i += 1;
+        write_reason(&rt.stderr(), v, list, i);
+        tally = lines::counted(tally, v);
     }
-    write_counts(tally);
+    write_counts(&rt.stdout(), tally);
 }
 
 // A buffer of one byte more than the longest list has: bytes that fill it are no list (`list-short` of `lists`).
-fn main() {
+fn main(rt: HostRuntime) {
     let mut buffer = [0u8; lists::LONGEST + 1];
-    if let Filled::Bytes(n) = reading::whole(b"yard.man", &mut buffer) {
+    if let Filled::Bytes(n) = reading::whole(&rt, b"yard.man", &mut buffer) {
         let list = &buffer[..n];
         if lists::is_list(list) {
-            check(list);
+            check(list, &rt);
             return;
         }
     }
-    write_not_a_list();
+    write_not_a_list(&rt.stdout());
 }

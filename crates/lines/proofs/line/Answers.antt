@@ -1,0 +1,10 @@
+-- `lines::line` meets its contract: three texts, one behind the other.
+use Rattle.fips.specs.Constants.{ascii}
+use Rattle.lines.specs.Lines.{line_of}
+use Rattle.lines.proofs.Putting.{then, renamed}
+use Rattle.lines.proofs.line.Goals as goal
+
+pub returns : goal.returns
+unfolding line_of ascii
+returns c = then _ _ _ _ (then _ _ _ _ c.verdict_word-at.ensures (renamed _ _ _ _ c.name.ensures.result_value c.append-end.ensures))
+    c.append.ensures

@@ -1,0 +1,8 @@
+-- `report::file::take` meets its contract.
+use Rattle.report.proofs.Through.{takes}
+use Rattle.report.proofs.file.take.Goals as goal
+
+pub returns : goal.returns
+returns c =
+    let taken = takes _ _ c.add.ensures.outcome c.number.ensures in
+    record { value = taken.0; table_after = taken.1 }
