@@ -183,50 +183,54 @@ ended_with() {
 
 # ---- the program
 
-# is_current: the program is there, and no source is newer
+# is_current: the program is there, and no source is newer. What rt makes is no source.
 is_current() {
   [ -x "$program" ] || return
-  newer=$(find "$here/crates.txt" "$here/crates" \( -name '*.rt' -o -name '*.antt' -o -name crates.txt \) -newer "$program") || return
+  newer=$(find "$here/crates.txt" "$here/crates" -path "$here/crates/*/out" -prune -o \
+    \( -name '*.rt' -o -name '*.antt' -o -name crates.txt \) -newer "$program" -print) || return
   [ -z "$newer" ]
 }
 
-# build: proves and compiles it. What rt says of a crate is passed on as it comes.
+# build: proves and compiles it, by `rt run`, which then runs it in its crate's folder: for a 0, which names no edition, yardlist makes no
+# list, and yardcheck finds none there. A stamp beside the program tells that it is built of what is there. What rt says of a crate is passed
+# on as it comes.
 build() {
   rt=$(command -v rt) || fail "rt, Rattle's command, is not on the path"
-  mkdir -p "$here/target" && probe=$(mktemp "$here/target/$me.XXXXXX") && rm -f "$probe" ||
-    fail "the program is to be built, and the checkout cannot be written: $here/target"
+  mkdir -p "${program%/*}" && probe=$(mktemp "${program%/*}/$me.XXXXXX") && rm -f "$probe" ||
+    fail "the program is to be built, and the checkout cannot be written: ${program%/*}"
   [ "$mode" = status ] || say 'building: the program and all it stands on are proved first, which takes minutes'
   make_work
-  # rt runs a program as nobody, in a temporary folder of its own
-  chmod 711 "$work" && touch "$work/stamp" || no_room
+  touch "$work/stamp" || no_room
+  rm -f "$program.stamp"
   make_pipe
-  begin "$here" "$env" "TMPDIR=$work" "$rt" check "$me"
+  begin "$here/crates/$me" "$env" "TMPDIR=$work" "$rt" run -- 0
   log=''
   while IFS= read -r line <&5; do
     log="$log$line
 "
     case $mode,$line in
       status,*) ;;
-      *,'rt: '*' proved ('[0-9]*) printf '%s\n' "$line" >&2 ;;
+      *,'crate '*': modules '*) printf '%s\n' "$line" >&2 ;;
     esac
   done
   ended_with
-  [ "$status" -eq 0 ] || {
+  # the status is the program's own where it was run
+  [ -e "$program.stamp" ] && [ -x "$program" ] || {
     printf '%s' "$log" >&2
     fail 'not proved and built'
   }
-  # what is already proved is not written again; as old as the stamp, it is older than a source that was edited meanwhile
+  # what is already built is not written again; as old as the stamp, it is older than a source that was edited meanwhile
   touch -r "$work/stamp" "$program" || fail "the checkout cannot be written: $program"
   drop_work
 }
 
 # find_program: sets `installed` to the program where the script is installed, below the same prefix, where it needs no kit; and else
-# `program`, `loader`, `library` and `emulator` to what the kit runs it with. It is an x86-64 program, and runs under the kit's emulator on
-# another machine.
+# `program`, `loader` and `library` to what the kit runs it with, and `emulator` where one stands among the kit's tools: it is an x86-64
+# program.
 find_program() {
   installed=$here/libexec/dwombarine/$me
   [ ! -x "$installed" ] || return 0
-  installed='' program=$here/target/bin/$me
+  installed='' program=$here/crates/$me/out/$me
   is_current || build
   kit=$("$here/tests/kit/tools") || fail "Rattle's kit, under which the program runs, is not to be had"
   emulator=$kit/bin/qemu-x86_64

@@ -2,7 +2,6 @@
 failure can look right; what each run must write is SPEC's (rules.py)."""
 import contextlib
 import os
-import platform
 import pty
 import resource
 import shutil
@@ -75,7 +74,7 @@ def of_tools():
 
         # a kit of the yard's own
         kit = yard / "kit"
-        tools = kit / "on" / platform.machine() / "toolchain"
+        tools = kit / "toolchain"
         for name in ("bin/clang", "bin/qemu-x86_64", "lib/ld-linux-x86-64.so.2"):
             script(tools / name, f"echo {name} >> {mark}\nprintf '{FORGED}'\n")
         for cwd, words, home in ((above, ["yard"], "kit"), (yard, [], "kit"), (above, ["yard"], "./kit"), (above, ["yard"], "yard/kit")):
@@ -261,16 +260,17 @@ def a_checkout(rt):
 
 def building(above):
     path = f"{above / 'tools'}:{os.environ['PATH']}"
-    return {"PATH": path, "RATTLE_HOME": str(KIT.parents[2]), "PROGRAM": str(root / "target/bin/yardcheck")}
+    return {"PATH": path, "RATTLE_HOME": str(KIT.parent), "PROGRAM": str(root / "crates/yardcheck/out/yardcheck")}
 
 
 BUILDS = """
-[ "$*" = "check yardcheck" ] || exit 2
-echo 'rt: contracts proved (unchanged since it was last proved)'
-echo 'rt: answers proved (12 s)'
+[ "$*" = "run -- 0" ] || exit 2
+echo 'fn answers::number: proved'
+echo 'crate answers: modules loaded=0 checked=33'
 %s
-mkdir -p target/bin && cp "$PROGRAM" target/bin/yardcheck
-echo 'rt: yardcheck proved (3 s)'
+cp "$PROGRAM" out/yardcheck && : > out/yardcheck.stamp
+echo 'crate yardcheck: modules loaded=0 checked=12'
+echo 'NOT A LIST'
 """
 
 
@@ -284,17 +284,17 @@ def of_building():
         late = threading.Timer(SOON, os.write, (go, b"go\n"))
         late.start()
         told = [process.stderr.readline(), process.stderr.readline()]
-        count(late.is_alive() and told[1] == b"rt: answers proved (12 s)\n", "a crate is told as it is done", str(told))
+        count(late.is_alive() and told[1] == b"crate answers: modules loaded=0 checked=33\n", "a crate is told as it is done", str(told))
         late.cancel()
         os.write(go, b"go\n")
         out, said = process.communicate(timeout=SOON)
         os.close(go)
         compare("the program is built and run", (out, process.returncode, said), FINE)
-        count(said == b"rt: yardcheck proved (3 s)\nyard.map: not there\n", "the last crate is told", str(said))
+        count(said == b"crate yardcheck: modules loaded=0 checked=12\nyard.map: not there\n", "the last crate is told", str(said))
         count(not os.listdir(above / "temp"), "building leaves nothing lying about", str(os.listdir(above / "temp")))
         ran = run(words, cwd=above, env=with_env(**building(above)))
         compare("it is not built again", ran, FINE)
-        count(b"rt:" not in ran[2], "nor is it said", str(ran[2]))
+        count(b"crate" not in ran[2], "nor is it said", str(ran[2]))
         (above / "checkout/crates.txt").touch()
         ran = run(["checkout/bin/yardcheck", "--status", "yard"], cwd=above, env=with_env(**building(above), GO="/dev/null"))
         count(ran == (b"", 1, b""), "--status builds without a word", str(ran))
@@ -303,7 +303,7 @@ def of_building():
         ran = run(words, cwd=above, env=with_env(**building(above)))
         refused("what is not proved is not run", ran, b"one\ntwo\nyardcheck: not proved")
 
-    with a_checkout("echo 'rt: answers proved (12 s)'; mktemp -d > /dev/null; sleep 1000 & sleep 1001") as above:
+    with a_checkout("echo 'crate answers: modules loaded=0 checked=33'; mktemp -d > /dev/null; sleep 1000 & sleep 1001") as above:
         for number in (signal.SIGINT, signal.SIGTERM):
             process = started(words, above, env=building(above))
             process.stderr.readline()
@@ -325,7 +325,7 @@ def of_building():
         if limits is not None:
             ran = run([*limits, *words], cwd=above, env=with_env(**building(above)))
             refused("a checkout that cannot be written", ran, b"the checkout cannot be written: ")
-            count(os.fsencode(above / "checkout/target") in ran[2], "and it is named")
+            count(os.fsencode(above / "checkout/crates/yardcheck/out") in ran[2], "and it is named")
             refused("a folder that cannot be entered", run([*limits, *command, "shut"], cwd=above), b"the folder cannot be entered: shut")
         else:
             print("not run: what may not be written or entered, as root may do all and cannot be kept from it here")
@@ -370,7 +370,7 @@ def of_failures():
             refused(f"TMPDIR={place}", ran, b"yardcheck: no room for temporary files in " + place.encode())
 
         # a kit whose emulator says and does as it is told
-        tools = above / "kit/on" / platform.machine() / "toolchain"
+        tools = above / "kit/toolchain"
         script(tools / "bin/clang", "")
         lines = FINE[0].decode()
         for title, text, status in (

@@ -90,7 +90,7 @@ def of_reasons():
         count(right and len(together) == 2 * len(listed), "each behind its line", str(together))
 
         # nobody need hear them: neither the script nor the program by itself ends by that
-        program = [str(root / "tests/kit/x86-64"), str(root / "target/bin/yardcheck")]
+        program = [str(root / "tests/kit/x86-64"), str(root / "crates/yardcheck/out/yardcheck")]
         for title, words, cwd in (("the script", command, path), ("the program", program, path)):
             with open("/dev/full", "wb") as full:
                 out, status, said = run(words, cwd=cwd, stderr=full)

@@ -21,7 +21,7 @@ from yard import PLAIN, count, finish, full_names, put, rng, root, run, run_unhe
 TITLES = {1: b"SHA-224", 2: b"SHA-256", 3: b"SHA-384", 4: b"SHA-512", 5: b"SHA-512/224", 6: b"SHA-512/256"}
 LIST = b"yard.man"
 lister, checker = str(root / "bin/yardlist"), str(root / "bin/yardcheck")
-program = [str(root / "tests/kit/x86-64"), str(root / "target/bin/yardlist")]
+program = [str(root / "tests/kit/x86-64"), str(root / "crates/yardlist/out/yardlist")]
 OLD = b"an old list"
 
 
@@ -422,7 +422,7 @@ def of_a_hostile_yard():
 
 def kit():
     found = run([str(root / "tests/kit/tools")])[0].decode().strip()
-    return Path(found).parents[2]
+    return Path(found).parent
 
 
 def first():

@@ -16,15 +16,8 @@ use Rattle.slices.specs.Parts.{part, put_part}
 use Rattle.slices.proofs.Parts.{length_part}
 use Rattle.writer.specs.Code.Moves.{raised}
 use Rattle.writer.proofs.MoveLaws.{length-raised, offset-kept, raised-more}
-use Rattle.writer.proofs.moving.raise.Statement.{statement}
-use Rattle.writer.proofs.moving.raise.Tie as tie
-
-record Raising (xs₀ : List ℕ) (n size by : ℕ) (xs : List ℕ) (at i : ℕ) : Type 0 where
-  wide : offset_size ≤ size
-  long : length xs₀ ≡ n * size
-  within : i ≤ n
-  place : at ≡ i * size
-  bytes : xs ≡ take at xs₀ ++ raised (n - i) size by (drop at xs₀)
+use Rattle.writer.proofs.moving.raise.Goals as goal
+use Rattle.writer.proofs.moving.raise.Invariants.{Raising}
 
 start : (xs : List ℕ) (n size by : ℕ) → offset_size ≤ size → length xs ≡ n * size → Raising xs n size by xs (length xs) n
 unfolding raised
@@ -102,58 +95,34 @@ module _ (xs₀ : List ℕ) (n size by : ℕ) (xs : List ℕ) (at i : ℕ) (f : 
           bytes = rw (k, is, more) (raised-more a (n - i) size by xs₀ xs f.wide inside done);
         }
 
-abbrev invariant-loop : tie.invariant-loop
-invariant-loop entries₀ n size by at₀ i₀ entries at i = Raising entries₀ n size by entries at i
+pub loop-i-init : goal.loop-i-init
+loop-i-init c = start _ _ _ _ (omega (arith, c.requires.0)) c.requires.1
 
-abbrev decreases-loop : tie.decreases-loop
-decreases-loop entries₀ n size by at₀ i₀ entries at i = i
+pub overflow_sub-at : goal.overflow_sub-at
+overflow_sub-at c = omega (arith, next _ _ _ _ _ _ _ c.loop-i.invariant c.loop-i-test.true)
 
-loop-holds : tie.Need-loop-init invariant-loop decreases-loop
-loop-holds c = start _ _ _ _ (omega (arith, c.before.requires.0)) c.before.requires.1
+pub overflow_add-at : goal.overflow_add-at
+overflow_add-at c = let f = c.loop-i.invariant in
+    omega (arith, inside _ _ _ _ _ _ _ f c.loop-i-test.true, f.wide)
 
-sub_at : tie.Need-overflow-sub-at invariant-loop decreases-loop
-sub_at c = omega (arith, next _ _ _ _ _ _ _ c.before.loop.invariant c.loop-test.true)
+pub slice_bounds-put-end : goal.slice_bounds-put-end
+slice_bounds-put-end c = let f = c.loop-i.invariant in
+    omega (arith, inside _ _ _ _ _ _ _ f c.loop-i-test.true, f.wide, size-kept _ _ _ _ _ _ _ f)
 
-add-put : tie.Need-overflow-add-put invariant-loop decreases-loop
-add-put c =
-    let t = c.before.before in
-    let f = t.before.loop.invariant in
-    omega (arith, inside _ _ _ _ _ _ _ f t.loop-test.true, f.wide)
+pub overflow_add-offset : goal.overflow_add-offset
+overflow_add-offset c = omega (
+  arith,
+  offset-small _ _ _ _ _ _ _ c.loop-i.invariant c.loop-i-test.true _ (λ k. (c.slice_known-1.given k).fits)
+      c.field-offset.ensures,
+  c.requires.2,
+)
 
-part-put-end : tie.Need-slice-bounds-put-end invariant-loop decreases-loop
-part-put-end c =
-    let t = c.before.before in
-    let f = t.before.loop.invariant in
-    omega (arith, inside _ _ _ _ _ _ _ f t.loop-test.true, f.wide, size-kept _ _ _ _ _ _ _ f)
+pub loop-i-preserved : goal.loop-i-preserved
+loop-i-preserved c = turn _ _ _ _ _ _ _ c.loop-i.invariant c.loop-i-test.true _ _ (λ k. (c.slice_known-1.given k).fits)
+    c.field-offset.ensures c.put.ensures
 
-add-put-2 : tie.Need-overflow-add-put-2 invariant-loop decreases-loop
-add-put-2 c =
-    let t = c.before.before.before in
-    let s = t.before.before in
-    omega (
-      arith,
-      offset-small _ _ _ _ _ _ _ t.before.loop.invariant t.loop-test.true _ (λ k. (s.slice-known.given k).fits)
-          c.before.field.ensures,
-      s.before.requires.2,
-    )
+pub shape_of-entries : goal.shape_of-entries
+shape_of-entries c = size-kept _ _ _ _ _ _ _ c.loop-i.invariant
 
-loop-again : tie.Need-loop-preserved invariant-loop decreases-loop
-loop-again c =
-    let p = c.before.before in
-    let g = p.before.before in
-    let t = g.before.before in
-    turn _ _ _ _ _ _ _ t.before.loop.invariant t.loop-test.true _ _ (λ k. (t.before.before.slice-known.given k).fits)
-    g.field.ensures p.put.ensures
-
-same_length : tie.Need-same-length invariant-loop decreases-loop
-same_length c = size-kept _ _ _ _ _ _ _ c.before.loop.invariant
-
-returns : tie.Need-returns invariant-loop decreases-loop
-returns c = whole _ _ _ _ _ _ _ c.before.loop.invariant (omega arith)
-
-pub raise-spec : {M : Type 1} → statement M
-raise-spec =
-    tie.close
-    (tie.spec invariant-loop decreases-loop loop-holds
-    (λ c. omega arith) sub_at (λ c κs. tt) add-put (λ c. omega arith) (λ c. omega arith) part-put-end add-put-2 (λ c κs. tt)
-    (λ c. omega arith) loop-again same_length returns)
+pub returns : goal.returns
+returns c = whole _ _ _ _ _ _ _ c.loop-i.invariant (omega arith)

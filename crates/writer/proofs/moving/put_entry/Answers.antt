@@ -14,10 +14,10 @@ use Rattle.slices.specs.AtFront.{at_front}
 use Rattle.slices.specs.Parts.{put_part}
 use Rattle.slices.proofs.AtFront.{at_front-all}
 use Rattle.slices.proofs.Parts.{part_to, part-all}
-use Rattle.writer.proofs.moving.put_entry.Statement.{statement}
-use Rattle.writer.proofs.moving.put_entry.Tie as tie
+use Rattle.writer.proofs.moving.put_entry.Goals as goal
 
 -- a row at the front, and bytes in all that is left
+
 row-and-rest : (row : List Field) (room rest mid new : List ℕ) → length room ≡ row_length row + length rest →
     mid ≡ put_row (sizes row) (values row) room → new ≡ at_front rest (part_to (row_length row) mid) →
     put_part (row_length row) (length mid - row_length row) new mid ≡ row_bytes row ++ rest
@@ -31,17 +31,6 @@ row-and-rest row room rest mid new e q p =
     rw (fills, behind, size, drop_of_length-le (drop n room) {i = length rest} (omega arith), append-nil, is)
     (rw (take_at (row_bytes row) (drop n room) n (length-row row)))
 
-returns : tie.Need-returns
-returns c =
-    let f = c.before.before in
-    let p = f.before.before.before.before in
-    let s = p.before.before.before.before.before.before in
-    let a = s.args in
-    row-and-rest (entry_row a.at a.len) a.room.now a.digest.now _ _ s.requires p.put-row.ensures f.put_front.ensures
-
-pub put-entry-spec : {M : Type 1} → statement M
-put-entry-spec =
-    tie.close
-    (tie.spec
-    (λ c. search rules) (λ c. search rules) (λ c κs. search rules) (λ c. search rules) (λ c. search rules) (λ c. search rules)
-    (λ c κs. search rules) (λ c. search rules) returns)
+pub returns : goal.returns
+returns c = let a = c.args in
+    row-and-rest (entry_row a.at a.len) a.room.now a.digest.now _ _ c.requires c.put_row.ensures c.put_front.ensures

@@ -10,15 +10,8 @@ use lib.Seq.{drop-length, take-take, take-set-le, drop-cons, drop-set-lt, get_or
 use Rattle.slices.specs.Parts.{part}
 use Rattle.slices.proofs.Parts.{take_within}
 use Rattle.writer.specs.Code.Moves.{slid}
-use Rattle.writer.proofs.moving.slide.Statement.{statement}
-use Rattle.writer.proofs.moving.slide.Tie as tie
-
-record Sliding (xs₀ : List ℕ) (by : ℕ) (xs : List ℕ) (i : ℕ) : Type 0 where
-  size : length xs ≡ length xs₀
-  within : i ≤ length xs₀
-  behind : min by (length xs₀) ≤ i
-  front : take i xs ≡ take i xs₀
-  back : drop i xs ≡ part xs₀ (i - by) (length xs₀ - i)
+use Rattle.writer.proofs.moving.slide.Goals as goal
+use Rattle.writer.proofs.moving.slide.Invariants.{Sliding}
 
 start : (xs : List ℕ) (by : ℕ) → Sliding xs by xs (length xs)
 start xs by = record {
@@ -30,6 +23,7 @@ start xs by = record {
 }
 
 -- one byte more
+
 turn : (xs₀ : List ℕ) (by : ℕ) (xs : List ℕ) (i j : ℕ) → i ≡ suc j → by < i → Sliding xs₀ by xs i →
     Sliding xs₀ by (set xs j (get_or xs (j - by) 0)) j
 turn xs₀ by xs i j e h f =
@@ -72,22 +66,15 @@ whole xs₀ by xs i h f =
     let last : drop i xs ≡ take (length xs₀ - by) xs₀ = rw (none, rest) at f.back in
     sym (take-append-drop i xs) ∙ rw (f.front, last, first)
 
-abbrev invariant-loop : tie.invariant-loop
-invariant-loop bytes₀ by i₀ bytes i = Sliding bytes₀ by bytes i
-
-abbrev decreases-loop : tie.decreases-loop
-decreases-loop bytes₀ by i₀ bytes i = i
-
-loop-again : tie.Need-loop-preserved invariant-loop decreases-loop
-loop-again c =
-    let l = c.before.before.loop in
+pub loop-i-preserved : goal.loop-i-preserved
+loop-i-preserved c = let l = c.loop-i in
     turn _ _ l.bytes l.i (l.i - 1) (omega arith) (omega arith) l.invariant
 
-pub slide-spec : {M : Type 1} → statement M
-slide-spec =
-    tie.close
-    (tie.spec invariant-loop decreases-loop
-    (λ c. start _ _)
-    (λ c. omega arith) (λ c. omega arith) (λ c. omega arith) (λ c. omega arith) (λ c. omega arith) loop-again
-    (λ c. c.before.loop.invariant.size)
-    (λ c. whole _ _ _ c.before.loop.i (omega arith) c.before.loop.invariant))
+pub loop-i-init : goal.loop-i-init
+loop-i-init c = start _ _
+
+pub shape_of-bytes : goal.shape_of-bytes
+shape_of-bytes c = c.loop-i.invariant.size
+
+pub returns : goal.returns
+returns c = whole _ _ _ c.loop-i.i (omega arith) c.loop-i.invariant
