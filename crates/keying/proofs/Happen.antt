@@ -7,7 +7,7 @@ use mathlib.Core.List.{List, [], ◌∷◌, ◌++◌, flatten, append_assoc, app
 use mathlib.Core.Path.{◌≡◌, refl, sym, ap, subst, ◌∙◌}
 use native.Mathlib.Omega.{arith}
 use borrow.Author.Tests.{le-ltb}
-use denote.Ref.{Bor}
+use denote.Ref.{Bor, MutBor}
 use lib.ListN.{length, length-append}
 use Rattle.answers.specs.declared.Answer.{Answer}
 use Rattle.answers.specs.Judged.{first}
@@ -38,6 +38,10 @@ use Rattle.keying.proofs.CPieces.{c-leads}
 slice : List ℕ → Bor (List ℕ)
 slice xs = record { ref_ptr = (0, 0); now = xs }
 
+-- the same lent to be written
+lent_slice : List ℕ → MutBor (List ℕ)
+lent_slice xs = record { ref_ptr = (0, 0); ghost_name = 0; now = xs }
+
 abbrev pub AllBytes : List (List ℕ) → Type 0
 AllBytes [] = Unit {0}
 AllBytes (p ∷ ps) = Bytes p × AllBytes ps
@@ -58,7 +62,7 @@ module _ (e : ℕ) (key : List ℕ) (pass : StartPasses e key) (small : Bytes ke
   -- ---- by value
 
   start-happens : Taken e key [] (started e key)
-  unfolding slice
+  unfolding slice lent_slice
   start-happens =
       started-by
       (record {
@@ -72,7 +76,7 @@ module _ (e : ℕ) (key : List ℕ) (pass : StartPasses e key) (small : Bytes ke
 
   add-happens : {all : List ℕ} {k : Keyed} (piece : List ℕ) → Bytes piece → too_long e (B e) (length (all ++ piece)) ≡ false →
       Taken e key all k → Taken e key (all ++ piece) (added k piece)
-  unfolding slice
+  unfolding slice lent_slice
   add-happens {all} {k} piece bytes short t =
       let l = leads t in
       added-by t
@@ -108,7 +112,7 @@ module _ (e : ℕ) (key : List ℕ) (pass : StartPasses e key) (small : Bytes ke
   Words64 all = (ws : List ℕ) × Below (2 ^ 64) ws × Lent e key all ws
 
   c-start-happens : (ws : List ℕ) → Below (2 ^ 64) ws → keyed_words ≤ length ws → Words64 []
-  unfolding slice start_tests step.start_tests first
+  unfolding slice lent_slice start_tests step.start_tests first
   c-start-happens ws words enough =
       let left = at_front (words_of (started e key)) ws in
       let shape = started-shaped e key small (omega (arith, known_small e pass.ok)) in (
@@ -117,7 +121,7 @@ module _ (e : ℕ) (key : List ℕ) (pass : StartPasses e key) (small : Bytes ke
         started-in
             (record {
               κs = ([], ([], tt));
-              args = (slice ws, (e, (slice key, tt)));
+              args = (lent_slice ws, (e, (slice key, tt)));
               result = 0;
               last = (left, (tt, (tt, tt)));
               learnt = (done (rw (pass.ok, pass.within, le-ltb (length ws) keyed_words enough)) refl, (words, small));
@@ -127,7 +131,7 @@ module _ (e : ℕ) (key : List ℕ) (pass : StartPasses e key) (small : Bytes ke
 
   c-add-happens : (all piece : List ℕ) → Bytes piece → too_long e (B e) (length (all ++ piece)) ≡ false → Words64 all →
       Words64 (all ++ piece)
-  unfolding slice
+  unfolding slice lent_slice
   c-add-happens all piece bytes short (ws, words, t) =
       let c = c-leads t in
       let passes = next-passes c.held piece short in
@@ -139,7 +143,7 @@ module _ (e : ℕ) (key : List ℕ) (pass : StartPasses e key) (small : Bytes ke
         added-in t
             (record {
               κs = ([], ([], tt));
-              args = (slice ws, (slice piece, tt));
+              args = (lent_slice ws, (slice piece, tt));
               result = 0;
               last = (left, (tt, tt));
               learnt = (done (add-tests ws piece c.enough ∙ add-passes (keyed_in ws) piece passes) refl, (words, bytes));

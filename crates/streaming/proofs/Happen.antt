@@ -5,7 +5,7 @@ use mathlib.Core.List.{List, [], ◌∷◌, ◌++◌, flatten, append_assoc, app
 use mathlib.Core.Path.{refl, sym, ap, subst, ◌∙◌}
 use native.Mathlib.Omega.{arith}
 use borrow.Author.Tests.{le-ltb}
-use denote.Ref.{Bor}
+use denote.Ref.{Bor, MutBor}
 use lib.ListN.{length, length-append}
 use Rattle.answers.specs.declared.Answer.{Answer}
 use Rattle.answers.specs.Judged.{first}
@@ -30,6 +30,10 @@ use Rattle.streaming.proofs.CStreams.{holds, on-stream}
 slice : List ℕ → Bor (List ℕ)
 slice xs = record { ref_ptr = (0, 0); now = xs }
 
+-- the same lent to be written
+lent_slice : List ℕ → MutBor (List ℕ)
+lent_slice xs = record { ref_ptr = (0, 0); ghost_name = 0; now = xs }
+
 -- a piece on what bytes lead to is done
 next-passes : (bytes piece : List ℕ) → length bytes + length piece ≤ stream_limit → AddPasses (stream_of bytes) piece
 next-passes bytes piece limit =
@@ -45,7 +49,7 @@ begin-happens = begun-by (record { κs = tt; args = tt; result = begun; last = t
 
 add-happens : (bytes : List ℕ) (s : Stream) (piece : List ℕ) → Shaped s → length bytes + length piece ≤ stream_limit → Streamed bytes s →
     Streamed (bytes ++ piece) (added s piece)
-unfolding slice
+unfolding slice lent_slice
 add-happens bytes s piece shape limit t =
     let there = (leads t).is in
     let passes = subst (λ (u : Stream). AddPasses u piece) (sym there) (next-passes bytes piece limit) in
@@ -82,12 +86,12 @@ AllBytes [] = Unit {0}
 AllBytes (p ∷ ps) = Bytes p × AllBytes ps
 
 c-begin-happens : (ws : List ℕ) → stream_words ≤ length ws → Lent [] (at_front (words_of begun) ws)
-unfolding slice begin_tests first
+unfolding slice lent_slice begin_tests first
 c-begin-happens ws enough =
     begun-in
     (record {
       κs = ([], tt);
-      args = (slice ws, tt);
+      args = (lent_slice ws, tt);
       result = 0;
       last = (at_front (words_of begun) ws, tt);
       learnt = done (rw (le-ltb (length ws) stream_words enough)) refl;
@@ -99,7 +103,7 @@ abbrev Words64 : List ℕ → Type 0
 Words64 bytes = (ws : List ℕ) × Below (2 ^ 64) ws × Lent bytes ws
 
 c-add-happens : (bytes piece : List ℕ) → Bytes piece → length bytes + length piece ≤ stream_limit → Words64 bytes → Words64 (bytes ++ piece)
-unfolding slice
+unfolding slice lent_slice
 c-add-happens bytes piece small limit (ws, words, t) =
     let h = holds t in
     let passes = next-passes bytes piece limit in
@@ -110,7 +114,7 @@ c-add-happens bytes piece small limit (ws, words, t) =
       added-in t
           (record {
             κs = ([], ([], tt));
-            args = (slice ws, (slice piece, tt));
+            args = (lent_slice ws, (slice piece, tt));
             result = 0;
             last = (left, (tt, tt));
             learnt = (done (on-stream bytes ws piece h ∙ add-passes (stream_of bytes) piece passes) refl, (words, small));

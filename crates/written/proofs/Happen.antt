@@ -7,7 +7,7 @@ use mathlib.Core.Bool.{true}
 use Prim.Native.Nat.{ℕ, zero, suc, ◌≤◌}
 use native.Mathlib.Omega.{arith}
 use lib.ListN.{length, drop}
-use denote.Ref.{Bor}
+use denote.Ref.{Bor, MutBor}
 use Rattle.answers.specs.Judged.{first, after}
 use Rattle.slices.specs.Below.{Bytes}
 use Rattle.slices.proofs.Below.{below-append, below-drop}
@@ -30,13 +30,17 @@ use Rattle.written.proofs.Orders.{reordered-sym, reordered-every}
 slice : List ℕ → Bor (List ℕ)
 slice xs = record { ref_ptr = (0, 0); now = xs }
 
+-- the same lent to be written
+lent_slice : List ℕ → MutBor (List ℕ)
+lent_slice xs = record { ref_ptr = (0, 0); ghost_name = 0; now = xs }
+
 pub start-happens : (e : ℕ) (b : List ℕ) → Began e b (first (start_tests e b)) (after (first (start_tests e b)) b (started e b))
-unfolding slice
+unfolding slice lent_slice
 start-happens e b =
     c-start-made
     (record {
       κs = ([], tt);
-      args = (e, (slice b, tt));
+      args = (e, (lent_slice b, tt));
       result = first (start_tests e b);
       last = (tt, (after (first (start_tests e b)) b (started e b), tt));
       learnt = record { answer = refl; leaves = refl };
@@ -52,12 +56,12 @@ put_of b name digest = record {
 }
 
 pub put-happens : (b name digest : List ℕ) → Lends b name digest → Did (put_of b name digest)
-unfolding slice
+unfolding slice lent_slice
 put-happens b name digest l =
     c-put-made
     (record {
       κs = ([], ([], ([], tt)));
-      args = (slice b, (slice name, (slice digest, tt)));
+      args = (lent_slice b, (slice name, (slice digest, tt)));
       result = first (put_tests b name digest);
       last = (after (first (put_tests b name digest)) b (put_in b name digest), (tt, (tt, tt)));
       learnt = (record { answer = refl; leaves = refl }, l);

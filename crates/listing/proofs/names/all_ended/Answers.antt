@@ -8,8 +8,7 @@ use lib.Dec.{eqb}
 use lib.ListN.{length, get_or, get_or-eq_default}
 use borrow.Author.Rules.{rules}
 use Rattle.listing.specs.Names.{ended}
-use Rattle.listing.proofs.names.all_ended.Statement.{statement}
-use Rattle.listing.proofs.names.all_ended.Tie as tie
+use Rattle.listing.proofs.names.all_ended.Goals as goal
 
 none : (bs : List ℕ) → length bs ≡ 0 → true ≡ ended bs
 unfolding ended
@@ -19,6 +18,8 @@ by_last : (bs : List ℕ) → eqb (get_or bs (length bs - 1) 0) 0 ≡ ended bs
 unfolding ended
 by_last bs = refl
 
-pub all-ended-spec : {M : Type 1} → statement M
-all-ended-spec =
-    tie.close (tie.spec (λ c. none _ c.if1.true) (λ c. search rules) (λ c. search rules) (λ c. by_last _))
+pub returns-then-input-eq0 : goal.returns-then-input-eq0
+returns-then-input-eq0 c = none _ c.if-input-eq0.true
+
+pub returns : goal.returns
+returns c = by_last _

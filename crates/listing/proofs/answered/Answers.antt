@@ -5,9 +5,9 @@ use borrow.Author.Rules.{rules}
 use borrow.Author.Tests.{ne_eqb}
 use Rattle.listing.specs.declared.Reason.{Reason}
 use Rattle.listing.specs.declared.Step.{Step}
+use native.Mathlib.Omega.{arith}
 use Rattle.listing.specs.Rules.{answered}
-use Rattle.listing.proofs.answered.Statement.{statement}
-use Rattle.listing.proofs.answered.Tie as tie
+use Rattle.listing.proofs.answered.Goals as goal
 
 at : (n k m : ℕ) → n ≡ m → n ≡ k → answered k ≡ answered m
 at n k m e f = ap answered (sym f ∙ e)
@@ -16,20 +16,17 @@ other : (n m : ℕ) → n ≡ m → (n ≡ 0 → ⊥) → (n ≡ 16 → ⊥) →
 unfolding answered
 other n m e a b c = rw (← e, ne_eqb n 0 a, ne_eqb n 16 b, ne_eqb n 17 c)
 
-returns : tie.Need-returns
+pub returns-in-0 : goal.returns-in-0
 unfolding answered
-returns c = at _ 0 _ c.before.number.ensures c.match.keys1
+returns-in-0 c = at _ 0 _ c.number.ensures c.in-0.is
 
-returns-2 : tie.Need-returns-2
+pub returns-in-16 : goal.returns-in-16
 unfolding answered
-returns-2 c = at _ 16 _ c.before.number.ensures c.match.keys2
+returns-in-16 c = at _ 16 _ c.number.ensures c.in-16.is
 
-returns-3 : tie.Need-returns-3
+pub returns-in-17 : goal.returns-in-17
 unfolding answered
-returns-3 c = at _ 17 _ c.before.number.ensures c.match.keys3
+returns-in-17 c = at _ 17 _ c.number.ensures c.in-17.is
 
-returns-4 : tie.Need-returns-4
-returns-4 c = let r = c.match.rest in other _ _ c.before.number.ensures r.0.0.1 r.0.1 r.1
-
-pub answered-spec : {M : Type 1} → statement M
-answered-spec = tie.close (tie.spec (λ c κs. search rules) returns returns-2 returns-3 returns-4)
+pub returns-in_default : goal.returns-in_default
+returns-in_default c = other _ _ c.number.ensures (omega arith) (omega arith) (omega arith)

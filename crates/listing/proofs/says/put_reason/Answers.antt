@@ -1,0 +1,40 @@
+-- `listing::says::put_reason` meets its contract: in each arm of the match the reason is known.
+use borrow.Author.Rules.{rules}
+use Rattle.fips.specs.Constants.{ascii}
+use Rattle.listing.proofs.says.put_reason.Goals as goal
+
+pub returns-in-Empty : goal.returns-in-Empty
+unfolding ascii
+returns-in-Empty c = rw c.in-Empty.is c.append.ensures
+
+pub returns-in-Long : goal.returns-in-Long
+unfolding ascii
+returns-in-Long c = rw c.in-Long.is c.append-in-Long.ensures
+
+pub returns-in-Byte : goal.returns-in-Byte
+unfolding ascii
+returns-in-Byte c = rw c.in-Byte.is c.append-in-Byte.ensures
+
+pub returns-in-Twice : goal.returns-in-Twice
+unfolding ascii
+returns-in-Twice c = rw c.in-Twice.is c.append-in-Twice.ensures
+
+pub returns-in-Full : goal.returns-in-Full
+unfolding ascii
+returns-in-Full c = rw c.in-Full.is c.append-in-Full.ensures
+
+pub returns-in-Unended : goal.returns-in-Unended
+unfolding ascii
+returns-in-Unended c = rw c.in-Unended.is c.append-in-Unended.ensures
+
+pub returns-in-TooLong : goal.returns-in-TooLong
+unfolding ascii
+returns-in-TooLong c = rw c.in-TooLong.is c.append-in-TooLong.ensures
+
+pub returns-in-Unread : goal.returns-in-Unread
+unfolding ascii
+returns-in-Unread c = rw c.in-Unread.is c.why_words.ensures
+
+pub returns-in-Unfit : goal.returns-in-Unfit
+unfolding ascii
+returns-in-Unfit c = rw c.in-Unfit.is c.append-in-Unfit.ensures

@@ -1,0 +1,12 @@
+-- `listing::says::refusal` meets its contract: the name as it is shown, and the reason behind it.
+use mathlib.Core.Path.{ap}
+use borrow.Author.Rules.{rules}
+use Rattle.lines.proofs.Putting.{then, renamed}
+use Rattle.listing.specs.Shown.{shown}
+use Rattle.listing.specs.Says.{refusal_line}
+use Rattle.listing.proofs.says.refusal.Goals as goal
+
+pub returns : goal.returns
+unfolding refusal_line
+returns c = let cut = ap shown c.part.ensures.result_value in
+    then _ _ _ _ (renamed _ _ _ _ cut c.put_shown-at.ensures) c.put_reason.ensures
