@@ -10,7 +10,6 @@ use lib.ListN.{length, take, length-append, take-append-drop}
 use lib.Pow.{pow_mono}
 use Rattle.slices.specs.Below.{Bytes}
 use Rattle.slices.proofs.Below.{below-append, below-take, below-drop, below_more}
-use Rattle.fips.specs.Editions.{known}
 use Rattle.dwsha2.specs.Limit.{too_long}
 use Rattle.dwsha2.specs.Code.Hashing.{absorbed}
 use Rattle.fips.proofs.Sizes.{bytes-within, block-some, block_within}

@@ -1,2 +1,3 @@
--- What is said of a buffer that a file was read into.
+-- What is said of a buffer that a file was read into, and of what a read answered.
 pub mod Filled
+pub mod Answers

@@ -1,12 +1,14 @@
 // Reading: what the programs ask of the system. A whole file at once, and a file piece by piece into a bay. A read may bring fewer bytes
 // than were asked for, and one that a signal interrupts has failed only for that turn. Nothing says that a file ends, so each loop counts
-// its turns down, from a number that no run uses up. What a file holds is the system's: the contracts say that there is such a file.
+// its turns, up to a number that no run reaches. What a file holds is the system's: the contracts say that there is such a file.
 #![tactic(auto)]
 
+ghost use Rattle.std.specs.Prelude.{◌≡◌, ◌<◌, ◌^◌, IfOk};
 ghost use Rattle.lists.specs.Layout.{edition_in};
 ghost use Rattle.report.specs.Code.Files.{Reading};
 ghost use Rattle.report.specs.Code.Program.{File, Led};
-ghost use Rattle.reading.specs.Filled.{Fills};
+ghost use Rattle.reading.specs.Filled.{Fills, Takes};
+ghost use Rattle.reading.specs.Answers.{error_number, answered_as};
 
 use lines::Why;
 use report::{Brought, Ending, Turn, file, reads};
@@ -23,7 +25,9 @@ pub enum Filled {
 }
 
 // The number of an error, as Linux has them; 0, which is none of them, where it is the library's own.
-fn number(error: &io::Error) -> i32 {
+fn number(error: &io::Error) -> i32
+    ensures { result ≡ error_number error.now }
+{
     match error.raw_os_error() {
         Some(n) => n,
         None => 0,
@@ -31,19 +35,20 @@ fn number(error: &io::Error) -> i32 {
 }
 
 // What a read answered as `report` reads it: its number of bytes, or one below 0 and the number of the error.
-fn answered(got: io::Result<usize>) -> (isize, i32) {
+fn answered(got: io::Result<usize>) -> (isize, i32)
+    requires { IfOk got (λ n. n < 2 ^ 63) }
+    ensures { result ≡ answered_as got }
+{
     match got {
-        Ok(n) => match isize::try_from(n) {
-            Ok(n) => (n, 0),
-            Err(_) => (-1, 0),
-        },
+        Ok(n) => (n as isize, 0),
         Err(e) => (-1, number(&e)),
     }
 }
 
 // The rest of a file at the front of a buffer.
 pub fn rest<R: Read>(from: &mut R, buffer: &mut [u8]) -> Filled
-    ensures { Fills result buffer.new }
+    ensures fills { Fills result buffer.new }
+    ensures bytes { Takes (R.remaining from.old) (R.remaining from.new) result buffer.new }
 {
     let mut n = 0;
     for _ in 0..u64::MAX {

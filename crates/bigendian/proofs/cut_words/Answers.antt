@@ -1,9 +1,7 @@
 -- `bigendian::cut_words` meets its contract. The invariant: the first i words of d, and the words of what is left of s, are those of s.
 -- The measure is what is left of d.
-use Prim.Native.Nat.{◌-◌}
 use native.Mathlib.Omega.{arith}
-use lib.ListN.{length}
-use Rattle.bigendian.proofs.Reading.{Read, read_none, read_more, read_all}
+use Rattle.bigendian.proofs.Reading.{read_none, read_more, read_all}
 use Rattle.bigendian.proofs.cut_words.Goals as goal
 
 pub loop-i-preserved : goal.loop-i-preserved

@@ -1,9 +1,8 @@
 -- `bigendian::cut_words` meets its contract. The invariant: the first i words of d, and the words of what is left of s, are those of s.
 -- The measure is what is left of d.
 use Prim.Native.Nat.{◌-◌}
-use native.Mathlib.Omega.{arith}
 use lib.ListN.{length}
-use Rattle.bigendian.proofs.Reading.{Read, read_none, read_more, read_all}
+use Rattle.bigendian.proofs.Reading.{Read}
 use Rattle.bigendian.proofs.cut_words.Given as goal
 
 abbrev pub invariant-loop-i : goal.invariant-loop-i

@@ -1,13 +1,8 @@
 -- `bigendian::get` meets its contract. The invariant: x is the number that the bytes read so far make, kept as a word.
-use mathlib.Core.Path.{◌≡◌, refl, ◌∙◌, ap}
-use mathlib.Core.List.{List}
-use Prim.Native.Nat.{ℕ, ◌+◌, ◌*◌, ◌-◌, ◌%◌, ◌^◌, ◌<◌, ◌≤◌}
-use native.Mathlib.Omega.{arith}
-use native.Mathlib.Numerals.{add-one}
-use lib.ListN.{length, take, get_or}
-use lib.Seq.{take-suc, take_all}
+use mathlib.Core.Path.{◌≡◌}
+use Prim.Native.Nat.{◌-◌, ◌≤◌}
+use lib.ListN.{length, take}
 use Rattle.bigendian.specs.BigEndian.{number, word64}
-use Rattle.bigendian.proofs.BigEndian.{number_append}
 use Rattle.bigendian.proofs.get.Given as goal
 
 abbrev pub invariant-loop-i : goal.invariant-loop-i

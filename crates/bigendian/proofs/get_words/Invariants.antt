@@ -1,13 +1,7 @@
 -- `bigendian::get_words` meets its contract. The invariant: the first i words of d, and the words of what is left of s, are those of s, and
 -- s has m - i more whole. The measure is m - i.
 use Prim.Native.Nat.{◌-◌}
-use mathlib.Core.Path.{◌∙◌, ap}
-use native.Mathlib.Omega.{arith}
-use lib.ListN.{length, length-map}
-use Rattle.bigendian.specs.BigEndian.{word64}
-use Rattle.bigendian.specs.Words.{to_words}
-use Rattle.bigendian.proofs.Words.{length-to_words}
-use Rattle.bigendian.proofs.Reading.{Read, read_none, read_more, read-rest, Ahead, ahead-all, ahead-next, ahead-end}
+use Rattle.bigendian.proofs.Reading.{Read, Ahead}
 use Rattle.bigendian.proofs.get_words.Given as goal
 
 abbrev pub invariant-loop-i : goal.invariant-loop-i

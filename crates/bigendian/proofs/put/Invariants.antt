@@ -1,12 +1,9 @@
 -- `bigendian::put` meets its contract. It writes from the end: the invariant says that from i on stand the last bytes of x,
 -- and that what is left of x is x without them. The measure is i.
-use mathlib.Core.Path.{◌≡◌, refl, sym, ◌∙◌}
+use mathlib.Core.Path.{◌≡◌}
 use mathlib.Core.List.{List}
-use Prim.Native.Nat.{ℕ, suc, ◌-◌, ◌/◌, ◌%◌, ◌^◌, ◌<◌, ◌≤◌}
-use native.Mathlib.Nat.{sub_self, sub-zero, pow-suc, div-div-eq-div-mul, div-one}
-use native.Mathlib.Omega.{arith}
-use lib.ListN.{length, drop, set, length-set}
-use lib.Seq.{drop-cons, drop-set-lt, drop-length, get_or-set_same}
+use Prim.Native.Nat.{ℕ, ◌-◌, ◌/◌, ◌^◌, ◌≤◌}
+use lib.ListN.{length, drop}
 use Rattle.bigendian.specs.BigEndian.{be}
 use Rattle.bigendian.proofs.put.Given as goal
 

@@ -1,17 +1,10 @@
 -- `bigendian::put_words` meets its contract. The invariant: i words stand at the front of d, in `at` bytes, and the rest of d is as it was;
 -- and there is room for the m - i words that are left. The measure is m - i.
-use mathlib.Core.Path.{◌≡◌, refl, sym, ◌∙◌, ap}
+use mathlib.Core.Path.{◌≡◌}
 use mathlib.Core.List.{List, ◌++◌}
-use Prim.Native.Nat.{ℕ, suc, ◌+◌, ◌-◌, ◌*◌, ◌<◌, ◌≤◌}
-use native.Mathlib.Nat.{add-sub_cancel_left, suc-mul, zero-mul, sub-zero, zero-add}
-use native.Mathlib.Numerals.{add-one}
-use native.Mathlib.Omega.{arith}
-use lib.ListN.{length, get_or, take, drop, length-append, length-take, length-drop}
-use lib.Seq.{length-take-le}
-use Rattle.bigendian.specs.BigEndian.{be}
-use Rattle.bigendian.specs.Words.{from_words, fitting, with_words}
-use Rattle.slices.proofs.Parts.{part-joins}
-use Rattle.bigendian.proofs.Words.{length-from_words, from_words-take-suc, fitting-le}
+use Prim.Native.Nat.{ℕ, ◌+◌, ◌-◌, ◌*◌, ◌≤◌}
+use lib.ListN.{length, take, drop}
+use Rattle.bigendian.specs.Words.{from_words}
 use Rattle.bigendian.proofs.put_words.Given as goal
 
 pub record Written (d₀ words : List ℕ) (n m : ℕ) (d : List ℕ) (at i : ℕ) : Type 0 where

@@ -1,7 +1,6 @@
 -- What is left from `at` decides, and less than a block decides nothing more. Assumes nothing.
-use Rattle.std.proofs.Common.{◌-◌, length, arith}
-use Rattle.fips.specs.Words.{w32}
-use Rattle.blockrule.proofs.Parse.{part-long, Absorbed, absorb-none, absorb-more, absorb-all}
+use Rattle.std.proofs.Common.{arith}
+use Rattle.blockrule.proofs.Parse.{part-long, absorb-none, absorb-more, absorb-all}
 use Rattle.block32.proofs.absorb32.Goals as goal
 
 pub block-n-requires : goal.block-n-requires

@@ -1,7 +1,7 @@
 -- What is left from `at` decides, and less than a block decides nothing more. Assumes nothing.
-use Rattle.std.proofs.Common.{◌-◌, length, arith}
+use Rattle.std.proofs.Common.{◌-◌, length}
 use Rattle.fips.specs.Words.{w32}
-use Rattle.blockrule.proofs.Parse.{part-long, Absorbed, absorb-none, absorb-more, absorb-all}
+use Rattle.blockrule.proofs.Parse.{Absorbed}
 use Rattle.block32.proofs.absorb32.Given as goal
 
 abbrev pub invariant-loop-at : goal.invariant-loop-at

@@ -1,7 +1,6 @@
 -- The first i letters have their chaining words added. Assumes nothing.
-use Rattle.std.proofs.Common.{◌-◌, arith, rules}
-use Rattle.fips.specs.Words.{w32, add}
-use Rattle.blockrule.proofs.Rounds.{Joined, join-none, join_more, join-all}
+use Rattle.std.proofs.Common.{rules}
+use Rattle.blockrule.proofs.Rounds.{join-none, join_more, join-all}
 use Rattle.block32.proofs.added.Goals as goal
 
 pub loop-i-preserved : goal.loop-i-preserved

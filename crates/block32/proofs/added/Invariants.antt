@@ -1,7 +1,7 @@
 -- The first i letters have their chaining words added. Assumes nothing.
-use Rattle.std.proofs.Common.{◌-◌, arith, rules}
+use Rattle.std.proofs.Common.{◌-◌}
 use Rattle.fips.specs.Words.{w32, add}
-use Rattle.blockrule.proofs.Rounds.{Joined, join-none, join_more, join-all}
+use Rattle.blockrule.proofs.Rounds.{Joined}
 use Rattle.block32.proofs.added.Given as goal
 
 abbrev pub invariant-loop-i : goal.invariant-loop-i

@@ -1,7 +1,7 @@
 -- The words loaded so far stand in front. Assumes nothing.
-use Rattle.std.proofs.Common.{◌-◌, refl, arith}
+use Rattle.std.proofs.Common.{refl, arith}
 use Rattle.bigendian.specs.Words.{to_words}
-use Rattle.slices.proofs.Fill.{Filled, fill-front}
+use Rattle.slices.proofs.Fill.{fill-front}
 use Rattle.blockrule.proofs.Load.{words_more}
 use Rattle.block32.proofs.begin.Goals as goal
 

@@ -1,5 +1,4 @@
 -- Schedule, rounds and sums are the block rule. Assumes nothing.
-use Rattle.std.proofs.Common.{arith}
 use Rattle.fips.specs.Block.{block}
 use Rattle.block32.proofs.block.Goals as goal
 

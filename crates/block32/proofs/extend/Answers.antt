@@ -1,5 +1,4 @@
 -- The store is the word that `next` answers, whatever the block. Assumes nothing.
-use Rattle.std.proofs.Common.{rules}
 use Rattle.block32.proofs.extend.Goals as goal
 
 pub returns : goal.returns

@@ -1,7 +1,6 @@
 -- The letters after t rounds are the standard's. Assumes nothing.
-use Rattle.std.proofs.Common.{◌-◌, refl, arith}
-use Rattle.fips.specs.Words.{w32}
-use Rattle.blockrule.proofs.Rounds.{Turned, turn-none, turn_more, turn-all}
+use Rattle.std.proofs.Common.{refl}
+use Rattle.blockrule.proofs.Rounds.{turn-none, turn_more, turn-all}
 use Rattle.block32.proofs.rounds.Goals as goal
 
 pub loop-t-preserved : goal.loop-t-preserved

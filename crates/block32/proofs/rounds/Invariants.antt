@@ -1,7 +1,7 @@
 -- The letters after t rounds are the standard's. Assumes nothing.
-use Rattle.std.proofs.Common.{◌-◌, refl, arith}
+use Rattle.std.proofs.Common.{◌-◌}
 use Rattle.fips.specs.Words.{w32}
-use Rattle.blockrule.proofs.Rounds.{Turned, turn-none, turn_more, turn-all}
+use Rattle.blockrule.proofs.Rounds.{Turned}
 use Rattle.block32.proofs.rounds.Given as goal
 
 abbrev pub invariant-loop-t : goal.invariant-loop-t

@@ -1,9 +1,8 @@
 -- From the block's words on, each store is the standard's next word. Assumes nothing.
-use Rattle.std.proofs.Common.{◌≡◌, ◌-◌, ◌%◌, ◌≤◌, refl, arith, rules}
+use Rattle.std.proofs.Common.{refl, arith, rules}
 use Rattle.bigendian.specs.Words.{to_words}
 use Rattle.fips.specs.Words.{w32}
-use Rattle.fips.specs.Block.{schedule}
-use Rattle.slices.proofs.Fill.{Filled, fill-all}
+use Rattle.slices.proofs.Fill.{fill-all}
 use Rattle.bigendian.proofs.Words.{length-to_words}
 use Rattle.blockrule.proofs.Schedule.{schedule-begun, schedule-more-8}
 use Rattle.block32.proofs.schedule.Goals as goal

@@ -1,6 +1,6 @@
 -- The number of the bytes taken, one more each turn. Assumes nothing.
-use Rattle.std.proofs.Common.{◌-◌, arith}
-use Rattle.blockrule.proofs.Load.{Loaded, load-none, load_fits, load-more, load-all}
+use Rattle.std.proofs.Common.{arith}
+use Rattle.blockrule.proofs.Load.{load-none, load_fits, load-more, load-all}
 use Rattle.block32.proofs.word.Goals as goal
 
 pub overflow_mul-x : goal.overflow_mul-x

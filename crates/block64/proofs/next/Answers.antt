@@ -1,5 +1,4 @@
 -- W_t by the recurrence is the standard's next word from 16 on. Assumes nothing.
-use Rattle.std.proofs.Common.{rules}
 use Rattle.fips.specs.Words.{w64}
 use Rattle.blockrule.proofs.Schedule.{next-later}
 use Rattle.block64.proofs.next.Goals as goal

@@ -1,5 +1,4 @@
 -- One round moves the letters on and puts the two sums in. Assumes nothing.
-use Rattle.std.proofs.Common.{rules}
 use Rattle.fips.specs.Block.{round}
 use Rattle.block64.proofs.round.Goals as goal
 

@@ -1,11 +1,9 @@
 -- From the block's words on, each store is the standard's next word. Assumes nothing.
-use Rattle.std.proofs.Common.{◌≡◌, ◌-◌, ◌%◌, ◌≤◌, refl, arith, rules}
+use Rattle.std.proofs.Common.{◌≡◌, ◌-◌, ◌%◌, ◌≤◌}
 use Rattle.bigendian.specs.Words.{to_words}
 use Rattle.fips.specs.Words.{w64}
 use Rattle.fips.specs.Block.{schedule}
-use Rattle.slices.proofs.Fill.{Filled, fill-all}
-use Rattle.bigendian.proofs.Words.{length-to_words}
-use Rattle.blockrule.proofs.Schedule.{schedule-begun, schedule-more-8}
+use Rattle.slices.proofs.Fill.{Filled}
 use Rattle.block64.proofs.schedule.Given as goal
 
 abbrev pub invariant-loop-t : goal.invariant-loop-t

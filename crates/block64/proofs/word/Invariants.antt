@@ -1,6 +1,6 @@
 -- The number of the bytes taken, one more each turn. Assumes nothing.
-use Rattle.std.proofs.Common.{◌-◌, arith}
-use Rattle.blockrule.proofs.Load.{Loaded, load-none, load_fits, load-more, load-all}
+use Rattle.std.proofs.Common.{◌-◌}
+use Rattle.blockrule.proofs.Load.{Loaded}
 use Rattle.block64.proofs.word.Given as goal
 
 abbrev pub invariant-loop-i : goal.invariant-loop-i

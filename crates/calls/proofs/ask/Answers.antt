@@ -1,5 +1,4 @@
 -- `calls::ask` meets its contract: it tells what a sound bay holds. Assumes nothing.
-use borrow.Author.Rules.{rules}
 use Rattle.calls.proofs.Judging.{asked}
 use Rattle.calls.proofs.ask.Goals as goal
 

@@ -1,6 +1,5 @@
 -- `calls::close` meets its contract: a bay that is not taken stops it, and closing what the bay holds answers. Assumes nothing.
 use mathlib.Core.Path.{sym, ap, ◌∙◌}
-use borrow.Author.Rules.{rules}
 use Rattle.answers.specs.Numbers.{number_of}
 use Rattle.answers.proofs.Refusals.{not_done, done-leaves}
 use Rattle.bays.proofs.Header.{Taken, taken-passed, gate-writes}

@@ -1,6 +1,5 @@
 -- `calls::drop` meets its contract: a bay that is not taken stops it, and zeros lie in its place. Assumes nothing.
 use mathlib.Core.Path.{sym, ap, ◌∙◌}
-use borrow.Author.Rules.{rules}
 use Rattle.answers.specs.Numbers.{number_of}
 use Rattle.answers.proofs.Refusals.{not_done}
 use Rattle.bays.proofs.Header.{Taken, taken-passed, gate-writes}

@@ -1,5 +1,4 @@
 -- `calls::lay_out` meets its contract: it is what the table itself does. Assumes nothing.
-use borrow.Author.Rules.{rules}
 use Rattle.calls.proofs.Judging.{laying-out}
 use Rattle.calls.proofs.lay_out.Goals as goal
 

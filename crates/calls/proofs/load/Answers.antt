@@ -1,6 +1,5 @@
 -- `calls::load` meets its contract: the gate, the record, the bay, and what the record holds packed into it. Assumes nothing.
 use mathlib.Core.Path.{◌≡◌, sym, ap, ◌∙◌}
-use borrow.Author.Rules.{rules}
 use Rattle.answers.specs.Judged.{first}
 use Rattle.answers.specs.Numbers.{number_of}
 use Rattle.bays.specs.Gate.{gate_tests}

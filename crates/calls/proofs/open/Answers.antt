@@ -1,7 +1,6 @@
 -- `calls::open` meets its contract: the gate, the edition, the bay, and the opened message packed into it. Assumes nothing.
 use mathlib.Core.Bool.{true}
 use mathlib.Core.Path.{◌≡◌, sym, ap, ◌∙◌}
-use borrow.Author.Rules.{rules}
 use Rattle.answers.specs.Judged.{first}
 use Rattle.answers.specs.Numbers.{number_of}
 use Rattle.fips.specs.Editions.{known}
@@ -13,7 +12,6 @@ use Rattle.bays.proofs.Header.{gate-writes}
 use Rattle.calls.specs.Calls.{Lends, opening}
 use Rattle.calls.proofs.Judging.{free-first, open-stopped, open_unknown, open-refused, opened-at}
 use Rattle.answers.proofs.Refusals.{not_done}
-use borrow.Author.Tests.{not-true, not-false}
 use Rattle.calls.proofs.open.Goals as goal
 use Rattle.calls.proofs.open.Goals.{After-slice_known-1, Else-not-known, In-Done}
 

@@ -1,5 +1,4 @@
 -- `capi::dw_lookup` meets its contract: in each case of what `find` answers, number, place and length are those of the case.
-use borrow.Author.Rules.{rules}
 use Rattle.lists.proofs.Places.{answered}
 use Rattle.capi.proofs.dw_lookup.Goals as goal
 

@@ -1,6 +1,5 @@
 -- `keyedwords::start` meets its contract: the keyed hash decides, then too few words are refused, and what it is then is packed. Assumes
 -- nothing.
-use borrow.Author.Rules.{rules}
 use Rattle.answers.proofs.Refusals.{not_done}
 use Rattle.keyedwords.specs.Calls.{LendsKey}
 use Rattle.keyedwords.proofs.Judging.{start-refused, start-short, start-done}

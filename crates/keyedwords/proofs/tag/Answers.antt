@@ -1,6 +1,5 @@
 -- `keyedwords::tag` meets its contract: too few words are refused, and then the keyed hash decides. Assumes nothing.
 use mathlib.Core.Path.{refl}
-use borrow.Author.Rules.{rules}
 use borrow.Author.Tests.{lt-ltb}
 use Rattle.answers.specs.Judged.{first}
 use Rattle.answers.proofs.Outcome.{refused}

@@ -6,14 +6,13 @@ use mathlib.Core.Path.{◌≡◌, sym, ◌∙◌}
 use Prim.Native.Nat.{ℕ, ◌+◌, ◌-◌, ◌*◌, ◌<◌, ◌≤◌}
 use native.Mathlib.Nat.{sub-zero}
 use native.Mathlib.Omega.{arith}
-use borrow.Author.Tests.{not-true, not-false}
 use lib.ListN.{length, drop}
 use Rattle.lists.specs.declared.Found.{Found}
 use Rattle.slices.specs.Tests.{same}
 use Rattle.lists.specs.Layout.{entries_at, entry_head, entry_size, names_at, edition_in, count_in, digest_size_in, name_length, read_pairs}
 use Rattle.lists.specs.Layout.{read_list, accepted}
 use Rattle.slices.specs.Parts.{part}
-use Rattle.lists.specs.Code.Rules.{entry_right, entries_right}
+use Rattle.lists.specs.Code.Rules.{entry_right}
 use Rattle.lists.proofs.ByRules.{accepted-header, accepted-entries}
 use Rattle.fips.proofs.Editions.{digest-short}
 use Rattle.lists.proofs.Places.{found, found_in, is_found}

@@ -1,23 +1,13 @@
 -- `lists::find` meets its contract. What is left from entry i on decides; it is right, since the list is accepted, so its names end within.
 -- Assumes nothing.
-use mathlib.Core.Bool.{true, false, cond}
-use mathlib.Core.List.{List, []}
-use mathlib.Core.Path.{◌≡◌, sym, ◌∙◌}
-use Prim.Native.Nat.{ℕ, ◌+◌, ◌-◌, ◌*◌, ◌<◌, ◌≤◌}
-use native.Mathlib.Nat.{sub-zero}
-use native.Mathlib.Omega.{arith}
-use borrow.Author.Tests.{not-true, not-false}
+use mathlib.Core.Bool.{true}
+use mathlib.Core.List.{List}
+use mathlib.Core.Path.{◌≡◌}
+use Prim.Native.Nat.{ℕ, ◌+◌, ◌-◌, ◌*◌, ◌≤◌}
 use lib.ListN.{length, drop}
-use Rattle.lists.specs.declared.Found.{Found}
-use Rattle.slices.specs.Tests.{same}
-use Rattle.lists.specs.Layout.{entries_at, entry_head, entry_size, names_at, edition_in, count_in, digest_size_in, name_length, read_pairs}
-use Rattle.lists.specs.Layout.{read_list, accepted}
-use Rattle.slices.specs.Parts.{part}
-use Rattle.lists.specs.Code.Rules.{entry_right, entries_right}
-use Rattle.lists.proofs.ByRules.{accepted-header, accepted-entries}
-use Rattle.fips.proofs.Editions.{digest-short}
-use Rattle.lists.proofs.Places.{found, found_in, is_found}
-use Rattle.lists.proofs.Walk.{one_less, entries-on, entries-first, entry-fits, place-on, place-over}
+use Rattle.lists.specs.Layout.{entry_size, read_pairs}
+use Rattle.lists.specs.Code.Rules.{entries_right}
+use Rattle.lists.proofs.Places.{found, found_in}
 use Rattle.lists.proofs.find.Given as goal
 
 pub record Left (bs name : List ℕ) (count d at next i : ℕ) : Type 0 where

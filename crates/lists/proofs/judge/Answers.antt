@@ -4,7 +4,6 @@ use mathlib.Core.Bool.{true, false, not}
 use mathlib.Core.List.{List, [], ◌∷◌}
 use mathlib.Core.Path.{◌≡◌, sym, ◌∙◌}
 use Prim.Native.Nat.{ℕ}
-use borrow.Author.Rules.{rules}
 use Rattle.answers.specs.Judged.{◌when◌, first}
 use Rattle.lists.specs.declared.Found.{Found}
 use Rattle.lists.specs.Calls.{find_tests, judge_tests}

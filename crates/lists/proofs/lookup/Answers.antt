@@ -1,6 +1,5 @@
 -- `lists::lookup` meets its contract: the part at the place found is the digest, and where there is none it is empty. Assumes nothing.
 use mathlib.Core.Path.{refl, ◌∙◌}
-use borrow.Author.Rules.{rules}
 use Rattle.slices.proofs.LiesAt.{lies-first, lies-also}
 use Rattle.lists.proofs.Places.{found_at, found-place, found_nowhere, found-no-list, nowhere-none, no-list-none}
 use Rattle.lists.proofs.lookup.Goals as goal

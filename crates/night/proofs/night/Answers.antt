@@ -1,6 +1,5 @@
 -- `night::night` meets its contract: what does not fit is refused, and what fits goes through the evening and the morning. Assumes nothing.
 use mathlib.Core.Path.{sym, ap, ◌∙◌}
-use borrow.Author.Rules.{rules}
 use Rattle.answers.specs.Numbers.{number_of}
 use Rattle.answers.proofs.Refusals.{not_done}
 use Rattle.night.proofs.Refusals.{no-night, whole-night}

@@ -6,7 +6,6 @@ use native.Mathlib.Omega.{arith}
 use mir.Syntax.{w8 as u8}
 use mir.Val.{Fits}
 use lib.ListN.{get_or}
-use borrow.Author.Rules.{rules}
 use Rattle.bigendian.specs.BigEndian.{word64}
 use Rattle.bigendian.specs.Words.{to_words}
 use Rattle.halfread.specs.State.{padded}

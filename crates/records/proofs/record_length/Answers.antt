@@ -2,7 +2,6 @@
 use Prim.Native.Nat.{◌+◌}
 use mathlib.Core.Path.{ap₂}
 use native.Mathlib.Omega.{arith}
-use borrow.Author.Rules.{rules}
 use Rattle.records.proofs.Written.{length_in-within}
 use Rattle.records.specs.Record.{newest}
 use Rattle.records.proofs.record_length.Goals as goal

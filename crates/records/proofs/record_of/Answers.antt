@@ -9,7 +9,6 @@ use borrow.Author.Rules.{rules}
 use Rattle.slices.proofs.Parts.{length-put}
 use Rattle.bigendian.specs.Rows.{sizes}
 use Rattle.bigendian.specs.Code.PutRow.{put_row}
-use Rattle.halfread.specs.declared.HalfRead.{HalfRead}
 use Rattle.halfread.proofs.Sizes.{rest-within}
 use Rattle.records.specs.Record.{newest, words_at, header}
 use Rattle.records.proofs.Written.{longest, tail_at-within, record-law, header_row}

@@ -1,7 +1,6 @@
 -- `streamwords::add` meets its contract: too few words are refused, then the stream decides, and what it is then is packed. Assumes
 -- nothing.
 use mathlib.Core.Path.{refl}
-use borrow.Author.Rules.{rules}
 use borrow.Author.Tests.{lt-ltb}
 use Rattle.answers.specs.Judged.{first}
 use Rattle.answers.proofs.Outcome.{refused}

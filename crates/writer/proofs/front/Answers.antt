@@ -2,7 +2,6 @@
 use mathlib.Core.Path.{ap, ◌∙◌}
 use Prim.Native.Nat.{ℕ}
 use native.Mathlib.Omega.{arith}
-use borrow.Author.Rules.{rules}
 use lib.ListN.{take}
 use Rattle.bigendian.proofs.RowLaws.{field-word64}
 use Rattle.lists.specs.Layout.{offset_size, whole_field_at}

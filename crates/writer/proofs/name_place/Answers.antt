@@ -1,7 +1,6 @@
 -- `writer::name_place` meets its contract: of no entry the end is told, and of another what stands in its field. Assumes nothing.
 use mathlib.Core.Path.{◌∙◌}
 use native.Mathlib.Omega.{arith}
-use borrow.Author.Rules.{rules}
 use borrow.Author.Tests.{eq-eqb, ne_eqb}
 use Rattle.bigendian.proofs.RowLaws.{field-word64}
 use Rattle.lists.specs.Layout.{offset_size}

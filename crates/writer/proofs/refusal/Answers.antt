@@ -12,7 +12,7 @@ use Rattle.answers.specs.Judged.{first}
 use Rattle.bigendian.specs.Rows.{field_in}
 use Rattle.fips.proofs.Editions.{digest-short}
 use Rattle.lists.specs.Calls.{listed}
-use Rattle.lists.specs.Code.Place.{earlier, Placed}
+use Rattle.lists.specs.Code.Place.{Placed}
 use Rattle.lists.specs.Layout.{offset_size, whole_field_at, entries_at, entry_head, entry_size}
 use Rattle.lists.specs.Layout.{edition_in, count_in, digest_size_in, read_list, accepted}
 use Rattle.lists.specs.Lists.{most_entries, name_allowed}

@@ -2,7 +2,6 @@
 use mathlib.Core.List.{List}
 use mathlib.Core.Path.{ap, ◌∙◌}
 use Prim.Native.Nat.{ℕ}
-use borrow.Author.Rules.{rules}
 use Rattle.answers.specs.Judged.{first, after}
 use Rattle.halfread.specs.declared.HalfRead.{HalfRead}
 use Rattle.bays.specs.Table.{put_bay}

@@ -1,6 +1,5 @@
 -- `bays::in_place::empty_at` meets its contract: the part that is lent is the bay. Assumes nothing.
 use mathlib.Core.Path.{ap, ◌∙◌}
-use borrow.Author.Rules.{rules}
 use Rattle.bays.specs.Bay.{is_empty}
 use Rattle.bays.proofs.Frames.{bay-at}
 use Rattle.bays.proofs.in_place.empty_at.Goals as goal

@@ -1,6 +1,5 @@
 -- `bays::in_place::gate_free` meets its contract: past the gate an empty bay is free, a sound one taken. Assumes nothing.
 use mathlib.Core.Path.{◌≡◌, sym, ap, ◌∙◌}
-use borrow.Author.Rules.{rules}
 use Rattle.answers.specs.Judged.{first}
 use Rattle.answers.specs.Numbers.{number_of}
 use Rattle.answers.proofs.Refusals.{not_done}

@@ -1,6 +1,5 @@
 -- `bays::in_place::half_at` meets its contract: the part that is lent is the bay. Assumes nothing.
 use mathlib.Core.Path.{ap, ◌∙◌}
-use borrow.Author.Rules.{rules}
 use Rattle.bays.specs.Bay.{half_of}
 use Rattle.bays.proofs.Frames.{bay-at, length-bay}
 use Rattle.bays.proofs.in_place.half_at.Goals as goal

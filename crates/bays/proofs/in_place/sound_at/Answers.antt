@@ -4,12 +4,10 @@ use mathlib.Core.Bool.{true, false}
 use mathlib.Core.List.{List, [], ◌∷◌}
 use mathlib.Core.Path.{◌≡◌, sym, ap, ◌∙◌}
 use native.Mathlib.Omega.{arith}
-use borrow.Author.Rules.{rules}
-use borrow.Author.Tests.{not-true, not-false}
 use Rattle.answers.specs.declared.Answer.{Answer}
 use Rattle.answers.specs.Judged.{first}
 use Rattle.answers.specs.Numbers.{number_of}
-use Rattle.answers.proofs.Outcome.{refused, done}
+use Rattle.answers.proofs.Outcome.{done}
 use Rattle.answers.proofs.Refusals.{not_done}
 use Rattle.bays.proofs.Refusals.{refused-with}
 use Rattle.bays.specs.Gate.{gate_tests, sound_tests, not_sound}

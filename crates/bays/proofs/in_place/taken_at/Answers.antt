@@ -1,9 +1,8 @@
 -- `bays::in_place::taken_at` meets its contract: what a taken bay holds, or nothing. Assumes nothing.
 use mathlib.Core.Path.{◌≡◌, sym, ap, ◌∙◌}
-use borrow.Author.Rules.{rules}
 use Rattle.answers.specs.Judged.{first}
 use Rattle.answers.specs.Numbers.{number_of}
-use Rattle.answers.proofs.Outcome.{refused, done}
+use Rattle.answers.proofs.Outcome.{done}
 use Rattle.answers.proofs.Refusals.{not_done}
 use Rattle.bays.proofs.Refusals.{refused-with}
 use Rattle.bays.specs.Gate.{taken_tests}

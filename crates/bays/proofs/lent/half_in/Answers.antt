@@ -1,6 +1,5 @@
 -- `bays::lent::half_in` meets its contract: what is unpacked is the words with zeros behind them. Assumes nothing.
 use mathlib.Core.Path.{ap, ◌∙◌}
-use borrow.Author.Rules.{rules}
 use Rattle.bays.specs.Bay.{half_of}
 use Rattle.bays.proofs.lent.half_in.Goals as goal
 

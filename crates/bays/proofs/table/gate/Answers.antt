@@ -1,8 +1,7 @@
 -- `bays::table::gate` meets its contract: the header, then the bay. Assumes nothing.
 use mathlib.Core.Path.{sym, ◌∙◌}
 use native.Mathlib.Omega.{arith}
-use borrow.Author.Rules.{rules}
-use borrow.Author.Tests.{not-true, not-false, le-leb, lt-leb}
+use borrow.Author.Tests.{le-leb, lt-leb}
 use Rattle.answers.specs.Judged.{first}
 use Rattle.bays.proofs.Frames.{headed-room}
 use Rattle.bays.proofs.table.gate.Goals as goal

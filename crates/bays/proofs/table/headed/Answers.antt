@@ -1,7 +1,6 @@
 -- `bays::table::headed` meets its contract: each word of the header by its test. Assumes nothing.
 use mathlib.Core.Path.{sym, ◌∙◌}
-use borrow.Author.Rules.{rules}
-use borrow.Author.Tests.{not-true, not-false, eq-eqb, ne_eqb}
+use borrow.Author.Tests.{eq-eqb, ne_eqb}
 use Rattle.bays.specs.Places.{first_bay, bay_words}
 use Rattle.bays.specs.Table.{headed}
 use Rattle.bays.proofs.Header.{short-table}

@@ -3,8 +3,6 @@ use mathlib.Core.Bool.{true}
 use mathlib.Core.Path.{◌≡◌, refl, sym, ap, ◌∙◌}
 use native.Mathlib.Omega.{arith}
 use lib.ListN.{length, length-set}
-use borrow.Author.Rules.{rules}
-use borrow.Author.Tests.{not-true, not-false}
 use Rattle.bays.specs.Table.{room_for}
 use Rattle.bays.proofs.Frames.{Room, room_of}
 use Rattle.bays.proofs.LaidOut.{length-laid_out, laid_out_lem}

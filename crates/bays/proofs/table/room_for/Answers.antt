@@ -1,5 +1,4 @@
 -- `bays::table::room_for` meets its contract: each of the three tests. Assumes nothing.
-use borrow.Author.Rules.{rules}
 use borrow.Author.Tests.{lt-leb, le-leb}
 use Rattle.bays.specs.Places.{most_bays}
 use Rattle.bays.specs.Table.{room_for}

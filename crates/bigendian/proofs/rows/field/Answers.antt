@@ -2,7 +2,6 @@
 use mathlib.Core.List.{List}
 use mathlib.Core.Path.{ap, ◌∙◌}
 use Prim.Native.Nat.{ℕ}
-use borrow.Author.Rules.{rules}
 use Rattle.bigendian.specs.BigEndian.{number, word64}
 use Rattle.bigendian.proofs.rows.field.Goals as goal
 

@@ -1,17 +1,10 @@
 -- `bigendian::rows::put_row` meets its contract. The invariant: what is to be there in the end is what stands in front of `at`, and what
 -- the sizes and values from i on make of the rest. The measure is the number of fields that are left.
-use mathlib.Core.Path.{◌≡◌, refl, sym, ◌∙◌, ap}
-use mathlib.Core.List.{List, [], ◌∷◌, ◌++◌, append_assoc}
-use Prim.Native.Nat.{ℕ, zero, suc, ◌+◌, ◌-◌, ◌<◌, ◌≤◌, min}
-use native.Mathlib.Nat.{add-sub_cancel_left}
-use native.Mathlib.Numerals.{add-one}
-use native.Mathlib.Omega.{arith}
-use lib.ListN.{length, get_or, take, drop, length-append, length-take, length-drop, take-append-drop}
-use lib.Seq.{take_at, drop_at, drop-cons, drop-nil}
-use borrow.Author.Tests.{lt-ltb, le-ltb}
-use Rattle.bigendian.specs.BigEndian.{be}
+use mathlib.Core.Path.{◌≡◌}
+use mathlib.Core.List.{List, ◌++◌}
+use Prim.Native.Nat.{ℕ, ◌-◌, ◌≤◌}
+use lib.ListN.{length, take, drop}
 use Rattle.bigendian.specs.Code.PutRow.{put_row}
-use Rattle.bigendian.proofs.BigEndian.{length-be}
 use Rattle.bigendian.proofs.rows.put_row.Given as goal
 
 pub record Written (d₀ ns xs d : List ℕ) (at i : ℕ) : Type 0 where

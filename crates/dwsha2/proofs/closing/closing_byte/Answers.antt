@@ -4,7 +4,6 @@ use mathlib.Core.Path.{◌≡◌, sym, subst}
 use native.Mathlib.Nat.{div-mul-le_self}
 use native.Mathlib.Omega.{arith}
 use lib.Pow.{pow_pos}
-use borrow.Author.Rules.{rules}
 use Rattle.fips.specs.Code.ByteForm.{closing_byte}
 use Rattle.fips.proofs.ByteForm.{closing-lt}
 use Rattle.dwsha2.proofs.closing.closing_byte.Goals as goal

@@ -2,7 +2,6 @@
 use mathlib.Core.Path.{sym}
 use native.Mathlib.Omega.{arith}
 use lib.Pow.{pow_pos}
-use borrow.Author.Rules.{rules}
 use borrow.Author.Tests.{le-leb, lt-leb}
 use Rattle.dwsha2.specs.Closing.{closing_fits}
 use Rattle.dwsha2.proofs.closing.closing_fits.Goals as goal

@@ -4,7 +4,6 @@ use mathlib.Core.Path.{refl, ◌∙◌}
 use Prim.Native.Nat.{◌+◌, ◌*◌, ◌/◌, ◌%◌, ◌^◌}
 use native.Mathlib.Omega.{arith}
 use lib.ListN.{replicate}
-use borrow.Author.Rules.{rules}
 use Rattle.bigendian.proofs.Words.{with_words-all}
 use Rattle.dwsha2.proofs.Length.{length-words}
 use Rattle.dwsha2.proofs.closing.length_field.Goals as goal

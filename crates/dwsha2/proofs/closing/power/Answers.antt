@@ -4,7 +4,6 @@ use native.Mathlib.Nat.{one-mul}
 use native.Mathlib.Omega.{arith}
 use Prim.Native.Nat.{◌^◌}
 use lib.Pow.{shl_exact}
-use borrow.Author.Rules.{rules}
 use Rattle.dwsha2.proofs.closing.power.Goals as goal
 
 pub returns : goal.returns

@@ -2,7 +2,6 @@
 use Prim.Native.Nat.{ℕ, ◌*◌}
 use mathlib.Core.Path.{sym, ap, ◌∙◌}
 use native.Mathlib.Omega.{arith}
-use borrow.Author.Rules.{rules}
 use Rattle.fips.specs.Sizes.{width_of}
 use Rattle.fips.proofs.Sizes.{thin-bytes}
 use Rattle.dwsha2.proofs.Last.{last_one, last-two}

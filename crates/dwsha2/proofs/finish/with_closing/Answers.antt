@@ -4,7 +4,6 @@ use mathlib.Core.List.{List}
 use mathlib.Core.Path.{ap₂, ◌∙◌}
 use native.Mathlib.Omega.{arith}
 use lib.ListN.{length, set}
-use borrow.Author.Rules.{rules}
 use Rattle.dwsha2.proofs.Last.{tail-and-byte}
 use Rattle.dwsha2.proofs.finish.with_closing.Goals as goal
 

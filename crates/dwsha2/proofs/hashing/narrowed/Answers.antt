@@ -1,13 +1,12 @@
 -- `dwsha2::hashing::narrowed` meets its contract: after i turns i words are taken to 32 bits. Assumes nothing.
-use Prim.Native.Nat.{◌-◌}
 use native.Mathlib.Omega.{arith}
-use lib.ListN.{length, take}
+use lib.ListN.{length}
 use lib.Seq.{take_all}
 use mathlib.Core.Path.{◌≡◌, refl, ap, ◌∙◌}
 use borrow.Author.Rules.{rules}
 use Rattle.fips.specs.Words.{w32}
 use Rattle.dwsha2.specs.Code.Hashing.{fit}
-use Rattle.slices.proofs.Fill.{Filled, fill_more, fill-all}
+use Rattle.slices.proofs.Fill.{fill_more, fill-all}
 use Rattle.dwsha2.proofs.Widths.{fit-more}
 use Rattle.dwsha2.proofs.hashing.narrowed.Goals as goal
 

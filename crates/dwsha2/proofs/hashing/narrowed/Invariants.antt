@@ -1,14 +1,9 @@
 -- `dwsha2::hashing::narrowed` meets its contract: after i turns i words are taken to 32 bits. Assumes nothing.
 use Prim.Native.Nat.{◌-◌}
-use native.Mathlib.Omega.{arith}
-use lib.ListN.{length, take}
-use lib.Seq.{take_all}
-use mathlib.Core.Path.{◌≡◌, refl, ap, ◌∙◌}
-use borrow.Author.Rules.{rules}
+use lib.ListN.{take}
 use Rattle.fips.specs.Words.{w32}
 use Rattle.dwsha2.specs.Code.Hashing.{fit}
-use Rattle.slices.proofs.Fill.{Filled, fill_more, fill-all}
-use Rattle.dwsha2.proofs.Widths.{fit-more}
+use Rattle.slices.proofs.Fill.{Filled}
 use Rattle.dwsha2.proofs.hashing.narrowed.Given as goal
 
 abbrev pub invariant-loop-i : goal.invariant-loop-i

@@ -1,11 +1,10 @@
 -- `dwsha2::hashing::widened` meets its contract: after k turns k words are copied. Assumes nothing.
-use Prim.Native.Nat.{◌-◌}
 use mathlib.Core.Path.{◌≡◌, refl, ◌∙◌}
 use native.Mathlib.Omega.{arith}
-use lib.ListN.{length, take}
+use lib.ListN.{length}
 use lib.Seq.{take_all, take-suc}
 use borrow.Author.Rules.{rules}
-use Rattle.slices.proofs.Fill.{Filled, fill_more, fill-all}
+use Rattle.slices.proofs.Fill.{fill_more, fill-all}
 use Rattle.dwsha2.proofs.hashing.widened.Goals as goal
 
 pub loop-k-preserved : goal.loop-k-preserved

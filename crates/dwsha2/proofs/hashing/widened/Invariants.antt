@@ -1,11 +1,7 @@
 -- `dwsha2::hashing::widened` meets its contract: after k turns k words are copied. Assumes nothing.
 use Prim.Native.Nat.{◌-◌}
-use mathlib.Core.Path.{◌≡◌, refl, ◌∙◌}
-use native.Mathlib.Omega.{arith}
-use lib.ListN.{length, take}
-use lib.Seq.{take_all, take-suc}
-use borrow.Author.Rules.{rules}
-use Rattle.slices.proofs.Fill.{Filled, fill_more, fill-all}
+use lib.ListN.{take}
+use Rattle.slices.proofs.Fill.{Filled}
 use Rattle.dwsha2.proofs.hashing.widened.Given as goal
 
 abbrev pub invariant-loop-k : goal.invariant-loop-k

@@ -1,7 +1,6 @@
 -- `fips::lookup::block_bytes` meets its contract: the bytes of a block, by the edition's width. Assumes nothing.
 use mathlib.Core.Bool.{Bool}
 use mathlib.Core.Path.{sym, ap, ◌∙◌}
-use borrow.Author.Rules.{rules}
 use Rattle.fips.specs.Words.{block_bytes}
 use Rattle.fips.specs.Sizes.{width_of}
 use Rattle.fips.proofs.Sizes.{width-of}

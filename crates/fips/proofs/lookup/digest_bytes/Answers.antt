@@ -1,6 +1,5 @@
 -- `fips::lookup::digest_bytes` meets its contract: the lookup tells the bytes of a digest. Assumes nothing.
 use mathlib.Core.Path.{sym, ap}
-use borrow.Author.Rules.{rules}
 use Rattle.fips.specs.Editions.{Edition}
 use Rattle.fips.proofs.Sizes.{sizes-known, sizes-unknown}
 use Rattle.fips.proofs.Editions.{edition-none}

@@ -1,6 +1,5 @@
 -- `fips::lookup::known` meets its contract: the lookup tells sizes exactly where there is an edition. Assumes nothing.
 use mathlib.Core.Path.{sym}
-use borrow.Author.Rules.{rules}
 use Rattle.fips.proofs.Sizes.{sizes-known, sizes-unknown}
 use Rattle.fips.proofs.lookup.known.Goals as goal
 

@@ -1,6 +1,5 @@
 -- `fips::lookup::narrow` meets its contract: the lookup tells the bits of a word. Assumes nothing.
 use mathlib.Core.Path.{sym}
-use borrow.Author.Rules.{rules}
 use Rattle.fips.proofs.Sizes.{sizes-known, sizes-unknown, narrow-word, narrow-none}
 use Rattle.fips.proofs.lookup.narrow.Goals as goal
 

@@ -4,7 +4,6 @@ use mathlib.Core.List.{List, []}
 use Prim.Native.Nat.{ℕ, ◌-◌}
 use native.Mathlib.Omega.{arith}
 use lib.ListN.{get_or}
-use borrow.Author.Rules.{rules}
 use Rattle.fips.specs.Editions.{Edition, start, edition, editions}
 use Rattle.fips.proofs.Editions.{unknown-none, start-row}
 use Rattle.fips.proofs.tables.start_row.Goals as goal

@@ -9,7 +9,6 @@ use native.Mathlib.Omega.{arith}
 use lib.ListN.{length, take, drop}
 use lib.Seq.{length-take-le}
 use borrow.Author.Rules.{rules}
-use Rattle.halfread.specs.declared.HalfRead.{HalfRead}
 use Rattle.halfread.specs.State.{padded, sound, tail_room}
 use Rattle.halfread.specs.Steps.{waiting}
 use Rattle.dwsha2.proofs.Limits.{length-fits}

@@ -4,7 +4,6 @@ use mathlib.Core.Path.{◌≡◌, sym, ◌∙◌}
 use native.Mathlib.Omega.{arith}
 use lib.ListN.{length}
 use borrow.Author.Rules.{rules}
-use borrow.Author.Tests.{not-true, not-false}
 use Rattle.halfread.proofs.Rules.{unsound, Kept, past-rule, begun-rule, zero-rule, below-rule}
 use Rattle.halfread.proofs.Sizes.{rest-within}
 use Rattle.halfread.specs.State.{tail_room}

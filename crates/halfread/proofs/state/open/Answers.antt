@@ -1,6 +1,5 @@
 -- `halfread::state::open` meets its contract: the words are the edition's starting words. Assumes nothing.
 use mathlib.Core.Path.{refl}
-use borrow.Author.Rules.{rules}
 use Rattle.halfread.specs.Steps.{opened}
 use Rattle.halfread.proofs.Fields.{same-state}
 use Rattle.halfread.proofs.state.open.Goals as goal

@@ -2,7 +2,6 @@
 use Prim.Native.Nat.{ℕ, ◌%◌}
 use mathlib.Core.Path.{ap}
 use native.Mathlib.Omega.{arith}
-use borrow.Author.Rules.{rules}
 use Rattle.fips.proofs.Sizes.{block-some}
 use Rattle.halfread.proofs.tail.tail_length.Goals as goal
 

@@ -1,7 +1,6 @@
 -- `keyed::add::add` meets its contract: where the other rules are kept, the inner message decides. Assumes nothing.
 use mathlib.Core.Path.{refl, sym, ◌∙◌}
 use borrow.Author.Rules.{rules}
-use borrow.Author.Tests.{not-true, not-false}
 use Rattle.answers.specs.Judged.{first}
 use Rattle.answers.proofs.Outcome.{refused}
 use Rattle.slices.specs.Below.{Bytes}

@@ -5,7 +5,6 @@ use native.Mathlib.Omega.{arith}
 use lib.ListN.{length}
 use lib.Seq.{length-take-le}
 use borrow.Author.Rules.{rules}
-use borrow.Author.Tests.{not-true, not-false}
 use Rattle.answers.specs.Judged.{first}
 use Rattle.answers.specs.Numbers.{number_of}
 use Rattle.answers.proofs.Refusals.{not_done}

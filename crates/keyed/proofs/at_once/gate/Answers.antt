@@ -1,7 +1,5 @@
 -- `keyed::at_once::gate` meets its contract: each refusal by its test. Assumes nothing.
 use mathlib.Core.Path.{sym, ◌∙◌}
-use borrow.Author.Rules.{rules}
-use borrow.Author.Tests.{not-true, not-false}
 use Rattle.answers.specs.Judged.{first}
 use Rattle.keyed.proofs.at_once.gate.Goals as goal
 

@@ -3,7 +3,6 @@ use Prim.Native.Nat.{ℕ, ◌+◌}
 use mathlib.Core.Path.{ap, ◌∙◌}
 use native.Mathlib.Omega.{arith}
 use lib.ListN.{length}
-use borrow.Author.Rules.{rules}
 use Rattle.slices.specs.Padded.{padded}
 use Rattle.dwsha2.proofs.Limits.{length-fits}
 use Rattle.hmac.specs.Hmac.{B}

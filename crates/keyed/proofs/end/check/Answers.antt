@@ -5,7 +5,6 @@ use native.Mathlib.Omega.{arith}
 use lib.ListN.{length}
 use lib.Seq.{length-take-le}
 use borrow.Author.Rules.{rules}
-use borrow.Author.Tests.{not-true, not-false}
 use Rattle.answers.specs.Judged.{first}
 use Rattle.slices.specs.Tests.{same}
 use Rattle.fips.proofs.Editions.{digest-short}

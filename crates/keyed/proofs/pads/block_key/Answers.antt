@@ -1,6 +1,5 @@
 -- `keyed::pads::block_key` meets its contract: a key longer than a block is hashed, and zeros stand behind. Assumes nothing.
 use native.Mathlib.Omega.{arith}
-use borrow.Author.Rules.{rules}
 use Rattle.keyed.proofs.Keys.{long-padded, short-padded}
 use Rattle.keyed.proofs.pads.block_key.Goals as goal
 

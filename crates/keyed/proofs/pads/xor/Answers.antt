@@ -1,12 +1,11 @@
 -- `keyed::pads::xor` meets its contract: after i turns i bytes are xored. Assumes nothing.
-use Prim.Native.Nat.{◌-◌}
 use mathlib.Core.Path.{◌≡◌, refl, ap, ◌∙◌}
 use native.Mathlib.Omega.{arith}
 use lib.Bits.{bit_xor}
-use lib.ListN.{length, take}
+use lib.ListN.{length}
 use lib.Seq.{take_all}
 use borrow.Author.Rules.{rules}
-use Rattle.slices.proofs.Fill.{Filled, fill_more, fill-all, map_more}
+use Rattle.slices.proofs.Fill.{fill_more, fill-all, map_more}
 use Rattle.halfread.specs.State.{tail_room}
 use Rattle.hmac.specs.Hmac.{xored}
 use Rattle.keyed.proofs.pads.xor.Goals as goal

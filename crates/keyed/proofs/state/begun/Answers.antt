@@ -1,6 +1,5 @@
 -- `keyed::state::begun` meets its contract: the words after the key's two blocks. Assumes nothing.
 use mathlib.Core.Path.{refl, sym, ap, ◌∙◌}
-use borrow.Author.Rules.{rules}
 use Rattle.halfread.specs.declared.HalfRead.{HalfRead}
 use Rattle.halfread.proofs.Closing.{given-block}
 use Rattle.halfread.proofs.Fields.{same-state}

@@ -1,6 +1,5 @@
 -- `keyed::state::blank` meets its contract: zeros. Assumes nothing.
 use mathlib.Core.Path.{refl}
-use borrow.Author.Rules.{rules}
 use Rattle.keyed.specs.State.{blank}
 use Rattle.keyed.proofs.Adding.{same-keyed}
 use Rattle.keyed.proofs.state.blank.Goals as goal

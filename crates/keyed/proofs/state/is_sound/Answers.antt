@@ -1,7 +1,5 @@
 -- `keyed::state::is_sound` meets its contract: the inner message, and then the other rules decide. Assumes nothing.
 use mathlib.Core.Path.{sym, ◌∙◌}
-use borrow.Author.Rules.{rules}
-use borrow.Author.Tests.{not-true, not-false}
 use Rattle.keyed.proofs.Soundness.{inner-unsound, more-decides}
 use Rattle.keyed.proofs.state.is_sound.Goals as goal
 

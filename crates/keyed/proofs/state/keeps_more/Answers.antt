@@ -1,6 +1,5 @@
 -- `keyed::state::keeps_more` meets its contract: the count, and then the outer words decide. Assumes nothing.
 use mathlib.Core.Path.{sym, ◌∙◌}
-use borrow.Author.Rules.{rules}
 use borrow.Author.Tests.{lt-leb}
 use native.Mathlib.Omega.{arith}
 use Rattle.halfread.specs.State.{block_of}

@@ -1,7 +1,5 @@
 -- `keyed::state::start` meets its contract: each refusal by its test, and the keyed hash that the key begins. Assumes nothing.
 use mathlib.Core.Path.{sym, ◌∙◌}
-use borrow.Author.Rules.{rules}
-use borrow.Author.Tests.{not-true, not-false}
 use Rattle.answers.specs.Judged.{first}
 use Rattle.answers.proofs.Outcome.{refused, done}
 use Rattle.slices.specs.Below.{Bytes}

@@ -1,6 +1,5 @@
 -- `lists::entries::digest_size` meets its contract.
 use mathlib.Core.Path.{ap, ◌∙◌}
-use borrow.Author.Rules.{rules}
 use Rattle.fips.specs.Editions.{digest_bytes}
 use Rattle.lists.proofs.entries.digest_size.Goals as goal
 

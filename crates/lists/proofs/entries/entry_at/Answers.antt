@@ -2,7 +2,6 @@
 use Prim.Native.Nat.{ℕ, ◌+◌, ◌*◌, ◌^◌, ◌≤◌}
 use mathlib.Core.Path.{ap}
 use native.Mathlib.Omega.{arith}
-use borrow.Author.Rules.{rules}
 use Rattle.fips.proofs.Editions.{digest-short}
 use Rattle.lists.specs.Layout.{number_size, entries_at, entry_size}
 use Rattle.lists.proofs.ByNumber.{entry-far}

@@ -2,7 +2,6 @@
 use mathlib.Core.Path.{refl}
 use Prim.Native.Nat.{◌<◌}
 use native.Mathlib.Omega.{arith}
-use borrow.Author.Rules.{rules}
 use Rattle.lists.specs.Layout.{count_in}
 use Rattle.slices.proofs.LiesAt.{lies-first, lies-also}
 use Rattle.lists.proofs.ByNumber.{no_name, name-at, name-place}

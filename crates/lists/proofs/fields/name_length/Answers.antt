@@ -1,7 +1,6 @@
 -- `lists::fields::name_length` meets its contract: a place in the entry is one in the list. Assumes nothing.
 use mathlib.Core.Path.{◌∙◌}
 use native.Mathlib.Omega.{arith}
-use borrow.Author.Rules.{rules}
 use Rattle.lists.specs.Layout.{offset_size, name_length_at}
 use Rattle.lists.proofs.Walk.{entry-field}
 use Rattle.lists.proofs.fields.name_length.Goals as goal

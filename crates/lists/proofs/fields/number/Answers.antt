@@ -1,6 +1,5 @@
 -- `lists::fields::number` meets its contract: up to eight bytes make a number that a word keeps whole. Assumes nothing.
 use mathlib.Core.Path.{◌∙◌}
-use borrow.Author.Rules.{rules}
 use Rattle.bigendian.proofs.RowLaws.{field-word64}
 use Rattle.lists.proofs.fields.number.Goals as goal
 

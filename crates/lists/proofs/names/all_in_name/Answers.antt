@@ -1,11 +1,7 @@
 -- `lists::names::all_in_name` meets its contract: what is left of the name decides. Assumes nothing.
-use Prim.Native.Nat.{◌-◌, ◌≤◌}
-use mathlib.Core.Path.{◌≡◌, refl, sym, ◌∙◌}
+use mathlib.Core.Path.{refl, sym, ◌∙◌}
 use native.Mathlib.Numerals.{add-one}
 use native.Mathlib.Omega.{arith}
-use lib.ListN.{length, drop}
-use borrow.Author.Tests.{not-true, not-false}
-use Rattle.slices.specs.Tests.{every}
 use Rattle.slices.proofs.Tests.{every-turn, every-stop, every-end}
 use Rattle.lists.specs.Lists.{in_name}
 use Rattle.lists.proofs.names.all_in_name.Goals as goal

@@ -1,15 +1,9 @@
 -- `lists::order::before` meets its contract. What is left from i on decides.
-use mathlib.Core.Bool.{false}
 use mathlib.Core.List.{List}
-use mathlib.Core.Path.{◌≡◌, refl, ◌∙◌}
-use Prim.Native.Nat.{ℕ, ◌+◌, ◌-◌, ◌<◌, ◌≤◌}
-use native.Mathlib.Numerals.{add-one}
-use native.Mathlib.Omega.{arith}
-use lib.Dec.{ltb}
-use lib.ListN.{length, get_or, drop}
-use borrow.Author.Tests.{eq-eqb, ne_eqb}
+use mathlib.Core.Path.{◌≡◌}
+use Prim.Native.Nat.{ℕ, ◌-◌, ◌≤◌}
+use lib.ListN.{length, drop}
 use Rattle.lists.specs.Order.{before}
-use Rattle.lists.proofs.Ascending.{before_on, before-short, before-over}
 use Rattle.lists.proofs.order.before.Given as goal
 
 pub record Left (a b : List ℕ) (i : ℕ) : Type 0 where

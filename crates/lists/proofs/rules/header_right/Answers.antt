@@ -7,8 +7,7 @@ use lib.Dec.{leb}
 use lib.ListN.{length}
 use Prim.Native.Nat.{ℕ, ◌+◌, ◌*◌, ◌≤◌}
 use native.Mathlib.Omega.{arith}
-use borrow.Author.Rules.{rules}
-use borrow.Author.Tests.{lt-leb, le-leb, not-true, not-false}
+use borrow.Author.Tests.{lt-leb, le-leb}
 use Rattle.fips.specs.Editions.{known}
 use Rattle.lists.specs.Lists.{most_entries}
 use Rattle.lists.specs.Layout.{entries_at, entry_size, edition_in, count_in, digest_size_in}

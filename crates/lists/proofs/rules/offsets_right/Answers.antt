@@ -1,7 +1,6 @@
 -- `lists::rules::offsets_right` meets its contract: each test is a condition of `offsets_right`. Assumes nothing.
 use mathlib.Core.Path.{sym, ◌∙◌}
 use native.Mathlib.Omega.{arith}
-use borrow.Author.Rules.{rules}
 use borrow.Author.Tests.{eq-eqb, ne_eqb}
 use Rattle.lists.specs.Code.Rules.{offsets_right}
 use Rattle.slices.proofs.Tests.{fails-at, holds_on, holds-last}

@@ -7,13 +7,12 @@ use native.Mathlib.Nat.{sub-zero, sub_self, add-sub_cancel_left}
 use native.Mathlib.Omega.{arith}
 use lib.Dec.{eqb}
 use lib.ListN.{length, drop}
-use borrow.Author.Tests.{not-true, not-false}
 use Rattle.slices.specs.Parts.{part}
 use Rattle.lists.specs.Code.Place.{earlier}
 use Rattle.lists.specs.Layout.{entries_at, entry_head, entry_size, names_at, name_length, read_pairs}
 use Rattle.lists.specs.Order.{before}
 use Rattle.lists.specs.Code.Rules.{entry_right, entries_right, more_earlier}
-use Rattle.lists.proofs.Walk.{one_less, entries-on, entries-stop, entry-fits, Earlier, earlier-start, earlier_on, earlier-over}
+use Rattle.lists.proofs.Walk.{one_less, entries-on, entries-stop, entry-fits, earlier-start, earlier_on, earlier-over}
 use Rattle.lists.proofs.rules.walk.Goals as goal
 use Rattle.lists.proofs.rules.walk.Invariants.{Left}
 

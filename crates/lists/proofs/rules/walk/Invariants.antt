@@ -1,19 +1,12 @@
 -- `lists::rules::walk` meets its contract. What is left from entry i on decides: it starts at `at`, and its names at `next`.
-use mathlib.Core.Bool.{true, false, false≢true}
 use mathlib.Core.List.{List, []}
-use mathlib.Core.Path.{◌≡◌, sym, ◌∙◌}
-use Prim.Native.Nat.{ℕ, ◌+◌, ◌-◌, ◌*◌, ◌<◌, ◌≤◌}
-use native.Mathlib.Nat.{sub-zero, sub_self, add-sub_cancel_left}
-use native.Mathlib.Omega.{arith}
-use lib.Dec.{eqb}
+use mathlib.Core.Path.{◌≡◌}
+use Prim.Native.Nat.{ℕ, ◌+◌, ◌-◌, ◌*◌, ◌≤◌}
 use lib.ListN.{length, drop}
-use borrow.Author.Tests.{not-true, not-false}
 use Rattle.slices.specs.Parts.{part}
-use Rattle.lists.specs.Code.Place.{earlier}
-use Rattle.lists.specs.Layout.{entries_at, entry_head, entry_size, names_at, name_length, read_pairs}
-use Rattle.lists.specs.Order.{before}
-use Rattle.lists.specs.Code.Rules.{entry_right, entries_right, more_earlier}
-use Rattle.lists.proofs.Walk.{one_less, entries-on, entries-stop, entry-fits, Earlier, earlier-start, earlier_on, earlier-over}
+use Rattle.lists.specs.Layout.{entries_at, entry_size, names_at, read_pairs}
+use Rattle.lists.specs.Code.Rules.{entries_right}
+use Rattle.lists.proofs.Walk.{Earlier}
 use Rattle.lists.proofs.rules.walk.Given as goal
 
 pub record Left (bs name : List ℕ) (count d at next last n i : ℕ) : Type 0 where

@@ -1,6 +1,5 @@
 -- `night::evening::evening` meets its contract: the bay of the first file holds what came of it, and that is saved. Assumes nothing.
 use mathlib.Core.Path.{◌∙◌}
-use borrow.Author.Rules.{rules}
 use Rattle.night.proofs.Story.{saved-half}
 use Rattle.night.proofs.evening.evening.Goals as goal
 

@@ -1,5 +1,4 @@
 -- `night::evening::laid` meets its contract: a layout and two opened bays. Assumes nothing.
-use borrow.Author.Rules.{rules}
 use Rattle.night.proofs.Story.{laid-held}
 use Rattle.night.proofs.evening.laid.Goals as goal
 

@@ -1,7 +1,6 @@
 -- `night::fits::record_length` meets its contract: no block has more than 128 bytes. Assumes nothing.
 use native.Mathlib.Nat.{mod-lt}
 use native.Mathlib.Omega.{arith}
-use borrow.Author.Rules.{rules}
 use Rattle.fips.proofs.Sizes.{block-some, block_within}
 use Rattle.night.proofs.fits.record_length.Goals as goal
 

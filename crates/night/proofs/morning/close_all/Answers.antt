@@ -1,5 +1,4 @@
 -- `night::morning::close_all` meets its contract: three bays closed, each into its output. Assumes nothing.
-use borrow.Author.Rules.{rules}
 use Rattle.night.proofs.Story.{closed_all}
 use Rattle.night.proofs.morning.close_all.Goals as goal
 

@@ -1,6 +1,5 @@
 -- `night::morning::morning` meets its contract: laid out, taken up from the record and gone on with. Assumes nothing.
 use mathlib.Core.Path.{◌∙◌}
-use borrow.Author.Rules.{rules}
 use Rattle.slices.specs.Below.{Bytes}
 use Rattle.night.proofs.Story.{taken-up}
 use Rattle.night.proofs.morning.morning.Goals as goal

@@ -1,8 +1,7 @@
 -- `slices::front::put_front` meets its contract: after i turns i bytes are written. Assumes nothing.
 use Prim.Native.Nat.{◌-◌}
-use native.Mathlib.Omega.{arith}
-use lib.ListN.{length, length-set}
-use Rattle.slices.proofs.AtFront.{Written, written_none, written-more, written_all, written-full}
+use lib.ListN.{length}
+use Rattle.slices.proofs.AtFront.{Written}
 use Rattle.slices.proofs.front.put_front.Given as goal
 
 abbrev pub invariant-loop-i : goal.invariant-loop-i

@@ -1,9 +1,7 @@
 -- `slices::front::put_words_front` meets its contract: after i turns i words are written. Assumes nothing.
-use Prim.Native.Nat.{◌-◌}
 use native.Mathlib.Omega.{arith}
-use borrow.Author.Rules.{rules}
-use lib.ListN.{length, length-set}
-use Rattle.slices.proofs.AtFront.{Written, written_none, written-more, written_all, written-full}
+use lib.ListN.{length-set}
+use Rattle.slices.proofs.AtFront.{written_none, written-more, written_all, written-full}
 use Rattle.slices.proofs.front.put_words_front.Goals as goal
 
 pub loop-i-smaller : goal.loop-i-smaller

@@ -5,7 +5,6 @@ use Prim.Native.Nat.{ℕ, ◌+◌, ◌-◌, ◌<◌, min}
 use native.Mathlib.Nat.{add-sub_cancel_left}
 use native.Mathlib.Omega.{arith}
 use lib.ListN.{length, take, drop, length-take, length-drop}
-use borrow.Author.Rules.{rules}
 use Rattle.slices.proofs.LiesAt.{lies-there, lies-first}
 use Rattle.slices.proofs.Parts.{take_within, drop-within}
 use Rattle.slices.specs.Parts.{part}

@@ -1,10 +1,7 @@
 -- `slices::same::same_bytes` meets its contract: what was found so far and what is left of both decide. Assumes nothing.
 use Prim.Native.Nat.{◌-◌}
-use mathlib.Core.Path.{sym}
-use native.Mathlib.Numerals.{add-one}
-use native.Mathlib.Omega.{arith}
 use lib.ListN.{length}
-use Rattle.slices.proofs.Tests.{Compared, compared-none, compared-more, compared-all, same-lengths}
+use Rattle.slices.proofs.Tests.{Compared}
 use Rattle.slices.proofs.same.same_bytes.Given as goal
 
 abbrev pub invariant-loop-i : goal.invariant-loop-i

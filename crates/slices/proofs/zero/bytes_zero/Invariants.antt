@@ -1,13 +1,9 @@
 -- `slices::zero::bytes_zero` meets its contract: what was found so far and what is left of the bytes decide. Assumes nothing.
 use Prim.Native.Nat.{◌-◌, ◌≤◌}
 use mathlib.Core.Bool.{◌&&◌}
-use mathlib.Core.Path.{◌≡◌, refl, sym, ap, ◌∙◌}
-use native.Mathlib.Numerals.{add-one}
-use native.Mathlib.Omega.{arith}
-use lib.Dec.{eqb}
+use mathlib.Core.Path.{◌≡◌}
 use lib.ListN.{length, drop}
 use Rattle.slices.specs.Tests.{all_zero}
-use Rattle.slices.proofs.Tests.{every-on, every-end, and-true}
 use Rattle.slices.proofs.zero.bytes_zero.Given as goal
 
 abbrev pub invariant-loop-i : goal.invariant-loop-i

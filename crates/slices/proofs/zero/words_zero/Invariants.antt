@@ -1,14 +1,8 @@
 -- `slices::zero::words_zero` meets its contract: what is left of the words decides. Assumes nothing.
 use Prim.Native.Nat.{◌-◌}
-use mathlib.Core.Path.{◌≡◌, refl, sym, ◌∙◌}
-use native.Mathlib.Numerals.{add-one}
-use native.Mathlib.Omega.{arith}
-use borrow.Author.Rules.{rules}
-use borrow.Author.Tests.{eq-eqb, ne_eqb}
-use lib.ListN.{length, get_or, drop}
-use lib.Dec.{eqb}
+use mathlib.Core.Path.{◌≡◌}
+use lib.ListN.{length, drop}
 use Rattle.slices.specs.Tests.{all_zero}
-use Rattle.slices.proofs.Tests.{every-turn, every-stop, every-end}
 use Rattle.slices.proofs.zero.words_zero.Given as goal
 
 abbrev pub invariant-loop-i : goal.invariant-loop-i

@@ -1,5 +1,4 @@
 -- `stream::add::too_long` meets its contract: what is left of the limit is compared. Assumes nothing.
-use borrow.Author.Rules.{rules}
 use Rattle.stream.specs.Steps.{stream_limit, taken}
 use Rattle.stream.proofs.Limits.{past_room}
 use Rattle.stream.proofs.add.too_long.Goals as goal

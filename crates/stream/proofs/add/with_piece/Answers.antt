@@ -9,7 +9,6 @@ use lib.Seq.{length-take-le}
 use borrow.Author.Rules.{rules}
 use Rattle.slices.specs.Padded.{padded}
 use Rattle.treerule.specs.Root.{chunk_bytes}
-use Rattle.stream.specs.declared.Stream.{Stream}
 use Rattle.stream.specs.State.{Shaped}
 use Rattle.stream.specs.Steps.{waiting}
 use Rattle.stream.proofs.Soundness.{sound-has}

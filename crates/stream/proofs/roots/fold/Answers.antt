@@ -1,7 +1,6 @@
 -- `stream::roots::fold` meets its contract. The invariant: the roots that are left and the node behind them fold to the same. The measure
 -- is how many are left. Assumes nothing.
-use native.Mathlib.Omega.{arith}
-use Rattle.stream.proofs.Folding.{Folded, folded_start, folded_more, folded-end}
+use Rattle.stream.proofs.Folding.{folded_start, folded_more, folded-end}
 use Rattle.stream.proofs.roots.fold.Goals as goal
 
 pub loop-i-preserved : goal.loop-i-preserved

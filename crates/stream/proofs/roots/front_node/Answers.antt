@@ -1,6 +1,5 @@
 -- `stream::roots::front_node` meets its contract: the bytes fill the node. Assumes nothing.
 use mathlib.Core.Path.{◌∙◌}
-use borrow.Author.Rules.{rules}
 use Rattle.stream.proofs.Buffers.{filled-front}
 use Rattle.stream.proofs.roots.front_node.Goals as goal
 

@@ -1,8 +1,6 @@
 -- `stream::roots::grow` meets its contract. The invariant: i chunks are taken. The measure is how many are left. Assumes nothing.
 use Prim.Native.Nat.{◌-◌}
-use mathlib.Core.Path.{◌∙◌}
-use native.Mathlib.Omega.{arith}
-use Rattle.stream.proofs.Pushing.{Grown, grown-start, grown-more, grown-end}
+use Rattle.stream.proofs.Pushing.{Grown}
 use Rattle.stream.proofs.roots.grow.Given as goal
 
 abbrev pub invariant-loop-i : goal.invariant-loop-i

@@ -1,5 +1,4 @@
 -- `stream::roots::held` meets its contract: a count of ones fits any integer. Assumes nothing.
-use borrow.Author.Rules.{rules}
 use lib.Count.{ones-le}
 use Rattle.stream.proofs.Limits.{count_fits}
 use Rattle.stream.proofs.roots.held.Goals as goal

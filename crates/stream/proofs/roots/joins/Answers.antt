@@ -2,7 +2,6 @@
 use native.Mathlib.Numerals.{add-one}
 use native.Mathlib.Omega.{arith}
 use mathlib.Core.Path.{ap, ◌∙◌}
-use borrow.Author.Rules.{rules}
 use lib.Count.{count_trailing_zeros, trailing_le}
 use Rattle.streamrule.proofs.Ones.{ones-zeros}
 use Rattle.stream.proofs.Limits.{count_fits}

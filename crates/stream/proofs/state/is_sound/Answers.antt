@@ -6,7 +6,6 @@ use native.Mathlib.Omega.{arith}
 use lib.Count.{ones}
 use lib.ListN.{length, drop}
 use borrow.Author.Rules.{rules}
-use borrow.Author.Tests.{not-true, not-false}
 use Rattle.slices.specs.Tests.{holds, all_zero}
 use Rattle.treerule.specs.Root.{chunk_bytes, node_bytes}
 use Rattle.stream.specs.State.{root_room, count_rules}

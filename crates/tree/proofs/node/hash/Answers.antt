@@ -1,6 +1,5 @@
 -- `tree::node::hash` meets its contract: hash at once refuses nothing here. Assumes nothing.
 use mathlib.Core.Path.{refl}
-use borrow.Author.Rules.{rules}
 use Rattle.tree.proofs.Hashes.{hash-law}
 use Rattle.tree.proofs.node.hash.Goals as goal
 

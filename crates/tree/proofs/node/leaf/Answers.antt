@@ -4,7 +4,6 @@ use mathlib.Core.Path.{◌≡◌, refl, sym, ap, ◌∙◌}
 use native.Mathlib.Omega.{arith}
 use lib.ListN.{length}
 use lib.Seq.{length-take-le}
-use borrow.Author.Rules.{rules}
 use Rattle.dwsha2.proofs.Limits.{within-limit}
 use Rattle.treerule.specs.Root.{chunk_bytes, node_edition, sha256, leaf}
 use Rattle.tree.proofs.Hashes.{leaf-message}

@@ -1,5 +1,4 @@
 -- `tree::node::nothing` meets its contract: a message of no bytes is not too long. Assumes nothing.
-use borrow.Author.Rules.{rules}
 use Rattle.dwsha2.proofs.Limits.{no_length}
 use Rattle.treerule.specs.Root.{node_edition}
 use Rattle.tree.proofs.node.nothing.Goals as goal

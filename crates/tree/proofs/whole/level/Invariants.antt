@@ -1,12 +1,7 @@
 -- `tree::whole::level` meets its contract. The invariant: j nodes of the level above are in place, and the level above the rest follows
 -- them. The measure is how many nodes are left. Assumes nothing.
-use Prim.Native.Nat.{◌+◌, ◌-◌, ◌*◌, ◌/◌}
-use mathlib.Core.Path.{◌≡◌}
-use native.Mathlib.Omega.{arith}
-use lib.ListN.{length}
-use borrow.Author.Rules.{rules}
-use Rattle.treerule.specs.Root.{node_bytes}
-use Rattle.tree.proofs.InPlace.{Raised, raised-none, raised-pair, raised-lone, raised_all}
+use Prim.Native.Nat.{◌-◌, ◌*◌}
+use Rattle.tree.proofs.InPlace.{Raised}
 use Rattle.tree.proofs.whole.level.Given as goal
 
 abbrev pub invariant-loop-j : goal.invariant-loop-j

@@ -4,7 +4,6 @@ use mathlib.Core.Path.{◌≡◌, sym, ap, ◌∙◌}
 use native.Mathlib.Nat.{add-sub_cancel_left}
 use native.Mathlib.Omega.{arith}
 use lib.ListN.{length, take, drop, length-take, length-drop}
-use borrow.Author.Rules.{rules}
 use Rattle.treerule.specs.Root.{node_bytes}
 use Rattle.slices.proofs.AtFront.{at_front-all}
 use Rattle.tree.proofs.whole.node_at.Goals as goal

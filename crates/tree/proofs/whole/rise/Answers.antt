@@ -3,7 +3,7 @@
 use mathlib.Core.Path.{sym}
 use native.Mathlib.Omega.{arith}
 use lib.Seq.{length-take-le}
-use Rattle.tree.proofs.InPlace.{Climbed, climbed-none, climbed-more, climbed-all}
+use Rattle.tree.proofs.InPlace.{climbed-none, climbed-more, climbed-all}
 use Rattle.tree.proofs.whole.rise.Goals as goal
 use Rattle.tree.proofs.whole.rise.Goals.{In-loop-left}
 

@@ -1,9 +1,6 @@
 -- `tree::whole::rise` meets its contract. The invariant: the node above those that are left is the node above all. The measure is how
 -- many are left. Assumes nothing.
-use mathlib.Core.Path.{sym}
-use native.Mathlib.Omega.{arith}
-use lib.Seq.{length-take-le}
-use Rattle.tree.proofs.InPlace.{Climbed, climbed-none, climbed-more, climbed-all}
+use Rattle.tree.proofs.InPlace.{Climbed}
 use Rattle.tree.proofs.whole.rise.Given as goal
 
 abbrev pub invariant-loop-left : goal.invariant-loop-left

@@ -1,6 +1,5 @@
 -- `tree::whole::root` meets its contract: the leaves of all chunks, and the node above them. Assumes nothing.
 use mathlib.Core.Path.{sym, ◌∙◌}
-use borrow.Author.Rules.{rules}
 use Rattle.treerule.proofs.Root.{root_none}
 use Rattle.tree.proofs.InPlace.{root-steps}
 use Rattle.tree.proofs.whole.root.Goals as goal

@@ -2,7 +2,6 @@
 use mathlib.Core.List.{List, ◌++◌}
 use mathlib.Core.Path.{◌≡◌}
 use Prim.Native.Nat.{ℕ, ◌+◌}
-use borrow.Author.Rules.{rules}
 use lib.ListN.{length, length-append}
 use Rattle.bigendian.specs.Rows.{row_bytes}
 use Rattle.bigendian.proofs.RowLaws.{length-row}

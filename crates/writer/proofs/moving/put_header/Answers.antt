@@ -1,6 +1,5 @@
 -- `writer::moving::put_header` meets its contract: the row finds room. Assumes nothing.
 use mathlib.Core.Path.{◌∙◌}
-use borrow.Author.Rules.{rules}
 use Rattle.bigendian.proofs.RowLaws.{put-row}
 use Rattle.lists.specs.Layout.{list_row}
 use Rattle.writer.proofs.moving.put_header.Goals as goal

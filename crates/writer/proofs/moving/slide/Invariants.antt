@@ -1,15 +1,10 @@
 -- `writer::moving::slide` meets its contract. It runs from the end: before i the bytes are as they were, and from i on stand those that lay
 -- `by` places before. The measure is i. Assumes nothing.
 use mathlib.Core.List.{List}
-use mathlib.Core.Path.{◌≡◌, refl, sym, ap, ◌∙◌}
-use Prim.Native.Nat.{ℕ, suc, ◌-◌, ◌<◌, ◌≤◌, min}
-use native.Mathlib.Nat.{sub_self}
-use native.Mathlib.Omega.{arith}
-use lib.ListN.{length, get_or, take, drop, set, length-set, take-append-drop}
-use lib.Seq.{drop-length, take-take, take-set-le, drop-cons, drop-set-lt, get_or-take, get_or-set_same}
+use mathlib.Core.Path.{◌≡◌}
+use Prim.Native.Nat.{ℕ, ◌-◌, ◌≤◌, min}
+use lib.ListN.{length, take, drop}
 use Rattle.slices.specs.Parts.{part}
-use Rattle.slices.proofs.Parts.{take_within}
-use Rattle.writer.specs.Code.Moves.{slid}
 use Rattle.writer.proofs.moving.slide.Given as goal
 
 pub record Sliding (xs₀ : List ℕ) (by : ℕ) (xs : List ℕ) (i : ℕ) : Type 0 where
