@@ -2,17 +2,47 @@
 use Prim.Native.Nat.{ℕ}
 use mathlib.Core.Bool.{Bool, cond}
 use mathlib.Core.List.{List, []}
-use mathlib.Core.Path.{◌≡◌, sym, ap, ◌∙◌}
+use mathlib.Core.Path.{◌≡◌, refl, sym, ap, ◌∙◌}
+use native.Mathlib.Omega.{arith}
 use borrow.Author.Tests.{ne_eqb}
 use lib.Dec.{eqb}
-use lib.ListN.{take, replicate}
+use lib.IntN.{ℤ, pos, negsuc}
+use lib.ListN.{length, take, replicate}
 use Rattle.calls.specs.Calls.{lay_out, opening, adding, closing, run, Outcome}
 use Rattle.calls.proofs.Runs.{runs}
 use Rattle.fips.specs.Editions.{digest_bytes}
 use Rattle.slices.specs.Tests.{same}
+use Rattle.slices.specs.Below.{Bytes}
+use Rattle.slices.proofs.Below.{below-nil, below-take}
+use Rattle.slices.proofs.Parts.{take_within}
+use Rattle.io.specs.Counts.{clamp_len}
 use Rattle.lines.specs.declared.Verdict.{Verdict}
-use Rattle.report.specs.Reads.{piece}
-use Rattle.report.specs.Code.Files.{begun, fits, after_piece, after_close, judged}
+use Rattle.report.specs.declared.Brought.{Brought}
+use Rattle.report.specs.declared.Ending.{Ending}
+use Rattle.report.specs.declared.Turn.{Turn}
+use Rattle.report.specs.Reads.{piece, brought}
+use Rattle.report.specs.Code.Files.{begun, fits, after_piece, turn_of, after_turn, after_close, judged}
+
+-- as many bytes as were counted are the piece
+counted-piece : (z : ℤ) (buffer : List ℕ) → take (clamp_len z (length buffer)) buffer ≡ piece z buffer
+counted-piece (pos n) buffer = take_within n buffer
+counted-piece (negsuc n) buffer = refl
+
+-- a piece of a buffer of bytes
+pub piece_bytes : (z : ℤ) (buffer : List ℕ) → Bytes buffer → Bytes (piece z buffer)
+piece_bytes (pos n) buffer b = below-take n buffer b
+piece_bytes (negsuc n) buffer b = below-nil 256 (omega arith)
+
+-- a read that brought bytes: they are taken, or reading ends
+pub piece-turn : (t buffer : List ℕ) (z e : ℤ) (n : ℕ) {q : Bool} {left : List ℕ} →
+    brought z e ≡ Brought.Bytes → n ≡ clamp_len z (length buffer) →
+    (q ≡ fits t (take n buffer)) × (left ≡ after_piece t (take n buffer)) → (b : Bool) → q ≡ b →
+    (cond b Turn.GoesOn (Turn.Ends Ending.TooLong) ≡ turn_of t (piece z buffer) (brought z e))
+    × (left ≡ after_turn t (piece z buffer) (brought z e))
+unfolding turn_of after_turn
+piece-turn t buffer z e n is count taken b k =
+    let bytes : take n buffer ≡ piece z buffer = ap (λ (m : ℕ). take m buffer) count ∙ counted-piece z buffer in
+    rw (is, ← bytes, ← taken.0, k) (refl, taken.1)
 
 module _ {t : List ℕ} where
   pub begins : {mid left : List ℕ} {r s : ℕ} (e f : ℕ) → Outcome t (lay_out 1) r mid [] → Outcome mid (opening 0 e) s left [] →
