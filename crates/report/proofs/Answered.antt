@@ -71,10 +71,10 @@ end (pos (suc n)) e f h = absurd (omega arith)
 end (negsuc n) e f h = absurd (omega (arith, f.sfits))
 
 -- a read that answered no number of bytes
-module _ (z e : ℤ) (None-more : lt_z (pos 0) z ≡ false) (not_end : of_z w64 z ≡ 0 → ⊥) where
+module _ (z e : ℤ) (none-more : lt_z (pos 0) z ≡ false) (not_end : of_z w64 z ≡ 0 → ⊥) where
   failing : brought z e ≡ cond (interrupted e) Brought.Again (Brought.Nothing (why_of e))
   unfolding brought
-  failing = go z None-more not_end
+  failing = go z none-more not_end
     where
       go : (y : ℤ) → lt_z (pos 0) y ≡ false → (of_z w64 y ≡ 0 → ⊥) →
           brought y e ≡ cond (interrupted e) Brought.Again (Brought.Nothing (why_of e))
