@@ -320,7 +320,7 @@ def of_building():
 
     limits = unprivileged()
     with a_checkout("exit 1") as above:
-        (above / "checkout").chmod(0o555)
+        (above / "checkout/crates").chmod(0o555)
         (above / "shut").mkdir(0o600)
         if limits is not None:
             ran = run([*limits, *words], cwd=above, env=with_env(**building(above)))
@@ -329,7 +329,7 @@ def of_building():
             refused("a folder that cannot be entered", run([*limits, *command, "shut"], cwd=above), b"the folder cannot be entered: shut")
         else:
             print("not run: what may not be written or entered, as root may do all and cannot be kept from it here")
-        (above / "checkout").chmod(0o755)
+        (above / "checkout/crates").chmod(0o755)
 
 
 # ---- failures
