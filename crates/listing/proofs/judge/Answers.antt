@@ -1,6 +1,5 @@
 -- `listing::judge` meets its contract: each test is one of `judged`.
 use mathlib.Core.Path.{sym, ◌∙◌}
-use borrow.Author.Tests.{not-true, not-false}
 use Rattle.listing.proofs.Rules.{is-empty, is-long, has-byte, is-full, is-fine}
 use Rattle.listing.proofs.judge.Goals as goal
 

@@ -1,5 +1,4 @@
 -- `treeparts::part_leaf` meets its contract: what leaf answers, at the front of the output. Assumes nothing.
-use borrow.Author.Rules.{rules}
 use Rattle.treeparts.proofs.part_leaf.Goals as goal
 
 pub returns : goal.returns

@@ -6,7 +6,6 @@ use mathlib.Core.Path.{◌≡◌, refl}
 use native.Mathlib.Omega.{arith}
 use lib.Dec.{eqb}
 use lib.ListN.{length, get_or, get_or-eq_default}
-use borrow.Author.Rules.{rules}
 use Rattle.listing.specs.Names.{ended}
 use Rattle.listing.proofs.names.all_ended.Goals as goal
 

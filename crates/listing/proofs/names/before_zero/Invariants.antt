@@ -1,11 +1,8 @@
 -- `listing::names::before_zero` meets its contract: what is left of the bytes decides.
 use Prim.Native.Nat.{◌+◌, ◌-◌, ◌≤◌}
 use mathlib.Core.Path.{◌≡◌}
-use native.Mathlib.Numerals.{add-one}
-use native.Mathlib.Omega.{arith}
 use lib.ListN.{length, drop}
 use Rattle.listing.specs.Names.{before_zero}
-use Rattle.listing.proofs.ByZeros.{before-turn, before-stop, before-end}
 use Rattle.listing.proofs.names.before_zero.Given as goal
 
 abbrev pub invariant-loop-i : goal.invariant-loop-i

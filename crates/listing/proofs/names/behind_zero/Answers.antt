@@ -1,6 +1,5 @@
 -- `listing::names::behind_zero` meets its contract: the zero byte is there, or the end.
 use native.Mathlib.Omega.{arith}
-use borrow.Author.Rules.{rules}
 use Rattle.listing.proofs.ByZeros.{lent, next-name, no_more}
 use Rattle.listing.proofs.names.behind_zero.Goals as goal
 

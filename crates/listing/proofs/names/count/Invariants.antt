@@ -1,12 +1,8 @@
 -- `listing::names::count` meets its contract: so many were counted, and what is left has the others.
 use Prim.Native.Nat.{◌+◌, ◌-◌, ◌≤◌}
 use mathlib.Core.Path.{◌≡◌}
-use native.Mathlib.Numerals.{add-one}
-use native.Mathlib.Omega.{arith}
 use lib.ListN.{length, drop}
-use borrow.Author.Rules.{rules}
 use Rattle.listing.specs.Names.{zeros}
-use Rattle.listing.proofs.ByZeros.{zeros-turn, zeros-end, at_most_one}
 use Rattle.listing.proofs.names.count.Given as goal
 
 abbrev pub invariant-loop-i : goal.invariant-loop-i

@@ -1,12 +1,8 @@
 -- `listing::names::name` meets its contract: after so many names, what is left has the name with what is left of its number.
 use Prim.Native.Nat.{◌≤◌}
-use mathlib.Core.Path.{◌≡◌, refl, ◌∙◌}
-use native.Mathlib.Omega.{arith}
+use mathlib.Core.Path.{◌≡◌}
 use lib.ListN.{length, drop}
-use borrow.Author.Rules.{rules}
-use Rattle.slices.proofs.LiesAt.{lies-also}
 use Rattle.listing.specs.Names.{name_in, names_from}
-use Rattle.listing.proofs.ByZeros.{name-turn, from-turn, name-here, place_here}
 use Rattle.listing.proofs.names.name.Given as goal
 
 abbrev pub invariant-loop-left : goal.invariant-loop-left

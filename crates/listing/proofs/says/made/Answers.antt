@@ -1,5 +1,4 @@
 -- `listing::says::made` meets its contract: four texts, one behind the other.
-use borrow.Author.Rules.{rules}
 use Rattle.fips.specs.Constants.{ascii}
 use Rattle.lines.proofs.Putting.{then}
 use Rattle.listing.specs.Says.{made_line}

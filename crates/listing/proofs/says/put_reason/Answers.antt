@@ -1,5 +1,4 @@
 -- `listing::says::put_reason` meets its contract: in each arm of the match the reason is known.
-use borrow.Author.Rules.{rules}
 use Rattle.fips.specs.Constants.{ascii}
 use Rattle.listing.proofs.says.put_reason.Goals as goal
 

@@ -1,6 +1,5 @@
 -- `listing::says::refusal` meets its contract: the name as it is shown, and the reason behind it.
 use mathlib.Core.Path.{ap}
-use borrow.Author.Rules.{rules}
 use Rattle.lines.proofs.Putting.{then, renamed}
 use Rattle.listing.specs.Shown.{shown}
 use Rattle.listing.specs.Says.{refusal_line}

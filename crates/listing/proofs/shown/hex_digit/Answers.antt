@@ -1,5 +1,4 @@
 -- `listing::shown::hex_digit` meets its contract.
-use native.Mathlib.Omega.{arith}
 use borrow.Author.Tests.{lt-ltb, le-ltb}
 use Rattle.listing.proofs.shown.hex_digit.Goals as goal
 

@@ -1,6 +1,5 @@
 -- `listing::shown::put_byte` meets its contract: the byte itself, or its digits.
 use mathlib.Core.Path.{sym, ◌∙◌}
-use borrow.Author.Rules.{rules}
 use Rattle.lines.proofs.Putting.{renamed}
 use Rattle.listing.proofs.Visible.{itself, by_digits}
 use Rattle.listing.proofs.shown.put_byte.Goals as goal

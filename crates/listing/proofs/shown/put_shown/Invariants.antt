@@ -1,15 +1,9 @@
 -- `listing::shown::put_shown` meets its contract: after i turns i bytes are shown.
 use Prim.Native.Nat.{◌-◌, ◌≤◌}
-use mathlib.Core.Path.{◌≡◌, ap}
-use native.Mathlib.Numerals.{add-one}
-use native.Mathlib.Omega.{arith}
+use mathlib.Core.Path.{◌≡◌}
 use lib.ListN.{length, take}
-use lib.Seq.{take_all}
-use borrow.Author.Rules.{rules}
 use Rattle.lines.specs.Code.Putting.{Put}
-use Rattle.lines.proofs.Putting.{then, renamed}
 use Rattle.listing.specs.Shown.{shown}
-use Rattle.listing.proofs.Visible.{none-shown, shown-more}
 use Rattle.listing.proofs.shown.put_shown.Given as goal
 
 abbrev pub invariant-loop-i : goal.invariant-loop-i
