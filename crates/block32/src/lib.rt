@@ -217,6 +217,8 @@ fn block(h: [u32; 8], k: &[u32; 64], s: &[u8]) -> [u32; 8]
 
 // The chaining words after the whole blocks of the slice; a rest of fewer than 64 bytes is not looked at.
 // The round words are read where they lie: copied, they would take as much of the stack as the schedule.
+// Not inlined: else its callers' frames would hold the schedule too.
+#[inline(never)]
 pub fn absorb32(h: [u32; 8], s: &[u8]) -> [u32; 8]
     ensures { result ≡ chain w32 h (parse_bytes w32 s.now) }
 {

@@ -217,6 +217,8 @@ fn block(h: [u64; 8], k: &[u64; 80], s: &[u8]) -> [u64; 8]
 
 // The chaining words after the whole blocks of the slice; a rest of fewer than 128 bytes is not looked at.
 // The round words are read where they lie: copied, they would take as much of the stack as the schedule.
+// Not inlined: else its callers' frames would hold the schedule too.
+#[inline(never)]
 pub fn absorb64(h: [u64; 8], s: &[u8]) -> [u64; 8]
     ensures { result ≡ chain w64 h (parse_bytes w64 s.now) }
 {
