@@ -81,17 +81,15 @@ fn word(s: &[u8], at: usize) -> u32
 }
 
 // The schedule begins with the block's own words.
-fn begin(s: &[u8]) -> [u32; 64]
+fn begin(w: &mut [u32; 64], s: &[u8])
     requires { 64 ≤ length s.now }
-    ensures { take 16 result ≡ to_words 16 4 s.now }
+    ensures { take 16 w.new ≡ to_words 16 4 s.now }
 {
-    let mut w = [0u32; 64];
     let mut t = 0;
     while t < 16 {
         w[t] = word(s, 4 * t);
         t += 1;
     }
-    w
 }
 
 // W_t from 16 on: the recurrence does not look at the block m.
@@ -115,24 +113,23 @@ fn extend(w: &mut [u32; 64], t: usize)
 }
 
 // All 64 words of the schedule, eight a turn: a word that was just stored is then still at hand.
-fn schedule(s: &[u8]) -> [u32; 64]
+fn schedule(w: &mut [u32; 64], s: &[u8])
     requires { 64 ≤ length s.now }
-    ensures { result ≡ schedule w32 (to_words 16 4 s.now) 64 }
+    ensures { w.new ≡ schedule w32 (to_words 16 4 s.now) 64 }
 {
-    let mut w = begin(s);
+    begin(w, s);
     let mut t = 16;
     while t < 64 {
-        extend(&mut w, t);
-        extend(&mut w, t + 1);
-        extend(&mut w, t + 2);
-        extend(&mut w, t + 3);
-        extend(&mut w, t + 4);
-        extend(&mut w, t + 5);
-        extend(&mut w, t + 6);
-        extend(&mut w, t + 7);
+        extend(w, t);
+        extend(w, t + 1);
+        extend(w, t + 2);
+        extend(w, t + 3);
+        extend(w, t + 4);
+        extend(w, t + 5);
+        extend(w, t + 6);
+        extend(w, t + 7);
         t += 8;
     }
-    w
 }
 
 // T1
@@ -213,21 +210,24 @@ fn block(h: [u32; 8], k: &[u32; 64], s: &[u8]) -> [u32; 8]
     requires { 64 ≤ length s.now }
     ensures { result ≡ block w32 k.now h (to_words 16 4 s.now) }
 {
-    let w = schedule(s);
+    let mut w = [0u32; 64];
+    schedule(&mut w, s);
     added(rounds(h, k, &w), h)
 }
 
 // The chaining words after the whole blocks of the slice; a rest of fewer than 64 bytes is not looked at.
-// The round words are copied once a call, since each use of a constant array would build it anew.
+// The round words are read where they lie: copied, they would take as much of the stack as the schedule.
+// Not inlined: else its callers' frames would hold the schedule too.
+#[inline(never)]
 pub fn absorb32(h: [u32; 8], s: &[u8]) -> [u32; 8]
     ensures { result ≡ chain w32 h (parse_bytes w32 s.now) }
 {
-    let k = fips::tables::round32();
+    let k = fips::tables::round32_lent();
     let mut v = h;
     let mut at = 0;
     while 64 <= s.len() - at {
         let end = at + 64;
-        let n = block(v, &k, &s[at..end]);
+        let n = block(v, k, &s[at..end]);
         v = n;
         at = end;
     }

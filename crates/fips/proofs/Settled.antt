@@ -1,11 +1,16 @@
 -- Settled: two results that a public function's own contract allows coincide. `Learnt` is that contract, made from src.
+use Rattle.std.specs.Prelude.{ℕ, List}
 use Rattle.contracts.specs.Says.{Settles}
 use Rattle.contracts.proofs.Values.{value-settled}
 use Rattle.fips.proofs.Sizes.{sizes-same}
 use Rattle.fips.specs.contracts.tables.round32 as round32
 use Rattle.fips.proofs.tables.round32.Reads as round32-reads
+use Rattle.fips.specs.contracts.tables.round32_lent as round32-lent
+use Rattle.fips.proofs.tables.round32_lent.Reads as round32-lent-reads
 use Rattle.fips.specs.contracts.tables.round64 as round64
 use Rattle.fips.proofs.tables.round64.Reads as round64-reads
+use Rattle.fips.specs.contracts.tables.round64_lent as round64-lent
+use Rattle.fips.proofs.tables.round64_lent.Reads as round64-lent-reads
 use Rattle.fips.specs.contracts.tables.start_row as start-row
 use Rattle.fips.proofs.tables.start_row.Reads as start-row-reads
 use Rattle.fips.specs.contracts.lookup.sizes as sizes
@@ -24,8 +29,14 @@ use Rattle.fips.proofs.lookup.block_bytes.Reads as block-bytes-reads
 pub round32-settled : Settles round32.ended round32-reads.Learnt (λ κs r x. r)
 round32-settled κs a r s x y = value-settled
 
+pub round32-lent-settled : (v : List ℕ) → Settles round32-lent.ended (λ κs. round32-lent-reads.Learnt (v, κs)) (λ κs r x. r.now)
+round32-lent-settled v κs a r s x y = value-settled
+
 pub round64-settled : Settles round64.ended round64-reads.Learnt (λ κs r x. r)
 round64-settled κs a r s x y = value-settled
+
+pub round64-lent-settled : (v : List ℕ) → Settles round64-lent.ended (λ κs. round64-lent-reads.Learnt (v, κs)) (λ κs r x. r.now)
+round64-lent-settled v κs a r s x y = value-settled
 
 pub start-row-settled : Settles start-row.ended start-row-reads.Learnt (λ κs r x. r)
 start-row-settled κs a r s x y = value-settled

@@ -5,7 +5,7 @@ ghost use Rattle.fips.specs.Constants.{round_words};
 ghost use Rattle.fips.specs.Editions.{start, start_rows};
 
 // FIPS 180-4 §4.2.2: the round constants of 32 bits.
-const ROUND32: [u32; 64] = [
+static ROUND32: [u32; 64] = [
     0x428a_2f98,
     0x7137_4491,
     0xb5c0_fbcf,
@@ -73,7 +73,7 @@ const ROUND32: [u32; 64] = [
 ];
 
 // FIPS 180-4 §4.2.3: the round constants of 64 bits.
-const ROUND64: [u64; 80] = [
+static ROUND64: [u64; 80] = [
     0x428a2f98_d728ae22,
     0x71374491_23ef65cd,
     0xb5c0fbcf_ec4d3b2f,
@@ -231,6 +231,19 @@ pub fn round64() -> [u64; 80]
     ensures { result ≡ round_words w64 }
 {
     ROUND64
+}
+
+// The same tables where they lie, for whoever only reads them: nothing is copied.
+pub fn round32_lent() -> &'static [u32; 64]
+    ensures { result.now ≡ round_words w32 }
+{
+    &ROUND32
+}
+
+pub fn round64_lent() -> &'static [u64; 80]
+    ensures { result.now ≡ round_words w64 }
+{
+    &ROUND64
 }
 
 // The six rows.

@@ -1,5 +1,5 @@
 -- The words loaded so far stand in front. Assumes nothing.
-use Rattle.std.proofs.Common.{refl, arith}
+use Rattle.std.proofs.Common.{refl, arith, rules}
 use Rattle.bigendian.specs.Words.{to_words}
 use Rattle.slices.proofs.Fill.{fill-front}
 use Rattle.blockrule.proofs.Load.{words_more}
@@ -7,7 +7,7 @@ use Rattle.block32.proofs.begin.Goals as goal
 
 pub loop-t-init : goal.loop-t-init
 unfolding to_words
-loop-t-init c = record { within = omega arith; long = refl; front = refl }
+loop-t-init c = record { within = omega arith; long = search rules; front = refl }
 
 pub loop-t-preserved : goal.loop-t-preserved
 loop-t-preserved c = words_more 4 c.args.s.now c.loop-t-test.true (omega arith) c.word.ensures

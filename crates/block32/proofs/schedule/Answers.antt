@@ -9,7 +9,7 @@ use Rattle.block32.proofs.schedule.Goals as goal
 
 pub loop-t-init : goal.loop-t-init
 loop-t-init c = let s = c.args.s.now in
-    (omega arith, refl, schedule-begun w32 (to_words 16 4 s) (length-to_words 16 4 s) (omega arith) (search rules) c.begin-w.ensures)
+    (omega arith, refl, schedule-begun w32 (to_words 16 4 s) (length-to_words 16 4 s) (omega arith) (search rules) c.begin.ensures)
 
 pub loop-t-preserved : goal.loop-t-preserved
 loop-t-preserved c = let m = to_words 16 4 c.args.s.now in (

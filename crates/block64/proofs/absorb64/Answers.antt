@@ -10,7 +10,7 @@ pub loop-at-preserved : goal.loop-at-preserved
 loop-at-preserved c = absorb-more (omega arith) (omega arith) c.block-n.ensures c.loop-at.invariant
 
 pub returns : goal.returns
-returns c = rw c.round64-k.ensures at (absorb-all c.loop-at-test.false c.loop-at.invariant)
+returns c = rw c.round64_lent-k.ensures at (absorb-all c.loop-at-test.false c.loop-at.invariant)
 
 pub loop-at-init : goal.loop-at-init
 loop-at-init c = absorb-none
