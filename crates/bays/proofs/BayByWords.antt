@@ -78,7 +78,8 @@ pub put-by-words : (t : List ℕ) (i : ℕ) (h : HalfRead) → Shaped h → plac
 put-by-words t i h s inside =
     let new = put_bay t i (bay_of h) in
     by-words-alike (λ j. get_or (bay_of h) j 0) (word_at new i) h
-    (λ j p. ap (λ l. get_or l j 0) (sym (bay_at-put_bay t i (bay_of h) (length-bay_of h s) inside)) ∙ word-of-bay new i j p) (bay-by-words h s)
+    (λ j p. ap (λ l. get_or l j 0) (sym (bay_at-put_bay t i (bay_of h) (length-bay_of h s) inside)) ∙ word-of-bay new i j p)
+    (bay-by-words h s)
 
 -- so the words of a bay are fixed by what it holds
 pub by-words-only : (b : List ℕ) (h : HalfRead) → length b ≡ bay_words → Below (2 ^ 64) b → Shaped h → ByWords (λ j. get_or b j 0) h →

@@ -37,9 +37,11 @@ pub headed-room : (t : List ℕ) → headed t ≡ true → Room (bays_of t) (len
 unfolding headed
 headed-room t e =
     room_of (bays_of t) (length t)
-    (holds_at (room_for (bays_of t) (length t) ∷ eqb (get_or t 1 0) first_bay ∷ eqb (get_or t 2 0) bay_words ∷ eqb (get_or t 3 0) 0 ∷ []) e 0)
+    (holds_at (room_for (bays_of t) (length t) ∷ eqb (get_or t 1 0) first_bay ∷ eqb (get_or t 2 0) bay_words ∷ eqb (get_or t 3 0) 0 ∷ []) e
+    0)
 
-pub headed-of : (t : List ℕ) → room_for (bays_of t) (length t) ≡ true → get_or t 1 0 ≡ first_bay → get_or t 2 0 ≡ bay_words → get_or t 3 0 ≡ 0 →
+pub headed-of : (t : List ℕ) → room_for (bays_of t) (length t) ≡ true → get_or t 1 0 ≡ first_bay → get_or t 2 0 ≡ bay_words →
+    get_or t 3 0 ≡ 0 →
     headed t ≡ true
 unfolding headed
 headed-of t room first words zero =

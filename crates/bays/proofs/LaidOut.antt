@@ -1,4 +1,5 @@
--- A table laid out: its header is in order, `headed-laid_out`, every bay is empty, `bay_at-laid_out`, the length and the caller's words are as
+-- A table laid out: its header is in order, `headed-laid_out`, every bay is empty, `bay_at-laid_out`, the length and the caller's words are
+-- as
 -- they were, `length-laid_out` and `laid_out-past`.
 use Prim.Native.Nat.{ℕ, ◌+◌, ◌-◌, ◌*◌, ◌<◌, ◌≤◌}
 use mathlib.Core.Bool.{true}

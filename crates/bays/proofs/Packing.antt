@@ -91,7 +91,8 @@ module _ (b : List ℕ) (fits : length b ≡ bay_words) (words : Below (2 ^ 64) 
 
 -- eight words copied over eight others, and the bytes of sixteen put over a tail
 pub unpacked : (b words tail eight old : List ℕ) → length b ≡ bay_words → length eight ≡ chain_words → length old ≡ tail_room →
-    words ≡ at_front (take chain_words (drop chain_from b)) eight → tail ≡ with_words 8 (take (length b - tail_from) (drop tail_from b)) old →
+    words ≡ at_front (take chain_words (drop chain_from b)) eight → tail ≡ with_words 8 (take (length b - tail_from) (drop tail_from b)) old
+    →
     half_of b ≡ record { edition = get_or b edition_word 0; count = get_or b count_word 0; words = words; tail = tail }
 unfolding half_of
 unpacked b words tail eight old fits e long w t =
@@ -135,7 +136,8 @@ module _ (b : List ℕ) (e c : ℕ) (words copied : List ℕ) (fits : length b �
 
   front-ten : take tail_from half-done ≡ e ∷ c ∷ words
   front-ten =
-      rw (front-two, copied_is) (ap (λ (l : List ℕ). e ∷ c ∷ l) (take_at words (drop chain_words (drop chain_from begun)) chain_words eight))
+      rw (front-two, copied_is)
+      (ap (λ (l : List ℕ). e ∷ c ∷ l) (take_at words (drop chain_words (drop chain_from begun)) chain_words eight))
 
   pub packed : (tail new : List ℕ) → Bytes tail →
       new ≡ map word64 (to_words (length (take (length half-done - tail_from) (drop tail_from half-done))) 8 tail) →

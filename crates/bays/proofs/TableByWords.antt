@@ -27,7 +27,8 @@ use Rattle.bays.specs.contracts.table.lay_out as lay-out
 use Rattle.bays.proofs.table.lay_out.Reads as lay-out-reads
 
 -- SPEC's numbers: the header's words, how many they are, the words of a bay, the most bays; and where bay i begins
-pub table-places : (bays_word ≡ 0) × (first_word ≡ 1) × (size_word ≡ 2) × (zero_word ≡ 3) × (first_bay ≡ 4) × (bay_words ≡ 26) × (most_bays ≡ 64)
+pub table-places : (bays_word ≡ 0) × (first_word ≡ 1) × (size_word ≡ 2) × (zero_word ≡ 3) × (first_bay ≡ 4) × (bay_words ≡ 26) ×
+    (most_bays ≡ 64)
     × ((i : ℕ) → place_of i ≡ first_bay + bay_words * i)
 table-places = (refl, refl, refl, refl, refl, refl, refl, λ i. refl)
 

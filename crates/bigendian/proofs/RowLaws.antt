@@ -165,7 +165,8 @@ pub field-kept : (row : List Field) (rest : List ℕ) (i : ℕ) → InOrder 0 ro
 field-kept row rest i e =
     sym (get_or-read_row row (row_bytes row ++ rest) i) ∙ ap (λ (l : List ℕ). get_or l i 0) (row_kept row [] rest e) ∙ get_or-kept_row row i
 
-pub field-read : (row : List Field) (rest : List ℕ) (i : ℕ) → InOrder 0 row → (get_or row i no_field).value < 256 ^ (get_or row i no_field).bytes →
+pub field-read : (row : List Field) (rest : List ℕ) (i : ℕ) → InOrder 0 row → (get_or row i no_field).value < 256 ^
+    (get_or row i no_field).bytes →
     field_in (row_bytes row ++ rest) (get_or row i no_field).place (get_or row i no_field).bytes ≡ (get_or row i no_field).value
 field-read row rest i e h = field-kept row rest i e ∙ mod-eq_of_lt h
 
@@ -204,7 +205,8 @@ pub row_is : (row : List Field) (bs : List ℕ) → Bytes bs → InOrder 0 row �
 row_is row bs h e r p = row-is-at row 0 bs h e r (omega arith)
 
 -- and where they are no longer, are that row
-pub row-is-all : (row : List Field) (bs : List ℕ) → Bytes bs → InOrder 0 row → Reads row bs → row_length row ≡ length bs → bs ≡ row_bytes row
+pub row-is-all : (row : List Field) (bs : List ℕ) → Bytes bs → InOrder 0 row → Reads row bs → row_length row ≡ length bs →
+    bs ≡ row_bytes row
 row-is-all row bs h e r p = sym (take_all (row_length row) bs (omega arith)) ∙ row_is row bs h e r (omega arith)
 
 -- ---- written by code

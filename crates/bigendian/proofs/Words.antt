@@ -1,5 +1,6 @@
 -- Laws of `from_words` and `to_words`. Each undoes the other: `to_words-from_words` and `from_words-to_words`.
--- What stands where: `from_words-part`, `get_or-from_words`, `get_or-to_words`; lists and counts split in two: `from_words-append`, `to_words-add`.
+-- What stands where: `from_words-part`, `get_or-from_words`, `get_or-to_words`; lists and counts split in two: `from_words-append`,
+-- `to_words-add`.
 use mathlib.Core.Path.{◌≡◌, refl, sym, ◌∙◌, ap, ap₂}
 use mathlib.Core.List.{List, [], ◌∷◌, ◌++◌, map, append_assoc, append-nil}
 use Prim.Native.Nat.{ℕ, zero, suc, ◌+◌, ◌*◌, ◌/◌, ◌%◌, ◌^◌, ◌<◌, ◌≤◌}
@@ -54,7 +55,8 @@ from_words-part n (w ∷ ws) (suc i) h =
     )
     (from_words-part n ws i (omega arith))
 
-get_or-word : (n : ℕ) (ws : List ℕ) (i j : ℕ) → i < length ws → j < n → get_or (from_words n ws) (i * n + j) 0 ≡ get_or (be n (get_or ws i 0)) j 0
+get_or-word : (n : ℕ) (ws : List ℕ) (i j : ℕ) → i < length ws → j < n → get_or (from_words n ws) (i * n + j) 0 ≡ get_or
+    (be n (get_or ws i 0)) j 0
 get_or-word n ws i j h p =
     sym (get_or-drop (i * n) (from_words n ws) j 0)
     ∙ sym (get_or-take n (drop (i * n) (from_words n ws)) j 0 p)

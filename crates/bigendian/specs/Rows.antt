@@ -1,5 +1,6 @@
 -- Rows of fields: a fixed layout as a list that says of each field where it stands, in how many bytes, and what number it holds, most
--- significant byte first. `row_bytes` lays a row out and `read_row` reads any bytes at its places; `InOrder`, `Fitting` and `Reads` are what
+-- significant byte first. `row_bytes` lays a row out and `read_row` reads any bytes at its places; `InOrder`, `Fitting` and `Reads` are
+-- what
 -- a row is to be and to be read as. SPEC, "The saved record" and "Digest list", have such rows.
 use Rattle.std.specs.Prelude.{◌≡◌, List, [], ◌∷◌, ◌++◌, ℕ, ◌+◌, ◌^◌, ◌<◌}
 use Rattle.slices.specs.Parts.{part}

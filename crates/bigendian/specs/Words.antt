@@ -1,5 +1,6 @@
 -- Words and bytes: SPEC, "Specification", under its table of signs. Words of n bytes each stand one after the other.
--- `from_words n ws` is the bytes of the words ws, `to_words k n bs` the k words at the front of the bytes bs, `with_words n ws bs` those bytes
+-- `from_words n ws` is the bytes of the words ws, `to_words k n bs` the k words at the front of the bytes bs, `with_words n ws bs` those
+-- bytes
 -- with the words ws written there.
 use Rattle.std.specs.Prelude.{List, [], ◌∷◌, ◌++◌, ℕ, zero, suc, ◌*◌, ◌/◌, min, length, take, drop}
 use Rattle.bigendian.specs.BigEndian.{be, number}

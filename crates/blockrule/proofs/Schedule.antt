@@ -27,7 +27,8 @@ module _ (p : Width) (m : List ℕ) where
   -- which looks only at the words before it
   pub next-take : (t : ℕ) (W : List ℕ) → 16 ≤ t → next p m t (take t W) ≡ next p m t W
   next-take t W h =
-      let seen : (d : ℕ) → 0 < d → d ≤ 16 → get_or (take t W) (t - d) 0 ≡ get_or W (t - d) 0 = λ d a b. get_or-take t W (t - d) 0 (omega arith) in
+      let seen : (d : ℕ) → 0 < d → d ≤ 16 → get_or (take t W) (t - d) 0 ≡ get_or W (t - d) 0 = λ d a b. get_or-take t W (t - d) 0
+      (omega arith) in
       rw (
         next-later t (take t W) h,
         next-later t W h,

@@ -125,7 +125,8 @@ module _ (t : List ℕ) (i : ℕ) (gate : first (gate_tests t i) ≡ 0) where
     pub load-filled : r ≡ Answer.Done → (s : Answer) → number_of s ≡ first fill_tests → 0 < number_of s →
         Outcome t (loading i bytes) (number_of s) t []
     unfolding tests load_tests
-    load-filled d s a p = past _ (went_on (load_tests bytes) fill_tests tt (done_first j d) (refused (sym a) (lt→ltb 0 (number_of s) p) refl))
+    load-filled d s a p =
+        past _ (went_on (load_tests bytes) fill_tests tt (done_first j d) (refused (sym a) (lt→ltb 0 (number_of s) p) refl))
 
     pub loaded_at : r ≡ Answer.Done → first fill_tests ≡ 0 → (left : List ℕ) → left ≡ put_bay t i (bay_of h) →
         Outcome t (loading i bytes) 0 left []

@@ -64,7 +64,8 @@ c-some : (t : List ℕ) (c : Call) → Lends t c → Some Did t c
 unfolding leaves
 c-some t (lay_out n) l =
     let c = lay_out n in
-    some Did (lay-out-did (call ([], tt) (lent_slice t, (n, tt)) (number_of (answered t c)) ((left t c).table, (tt, tt)) (alone t c refl refl, l)))
+    some Did (lay-out-did (call ([], tt) (lent_slice t, (n, tt)) (number_of (answered t c)) ((left t c).table, (tt, tt))
+    (alone t c refl refl, l)))
 c-some t (opening i e) l =
     let c = opening i e in
     some Did (open-did
@@ -97,7 +98,8 @@ c-some t (asking i) l =
     (tt, (tt, ((says t c).edition, ((says t c).count, tt)))) (asked t i, l)))
 c-some t (dropping i) l =
     let c = dropping i in
-    some Did (drop-did (call ([], tt) (lent_slice t, (i, tt)) (number_of (answered t c)) ((left t c).table, (tt, tt)) (alone t c refl refl, l)))
+    some Did (drop-did (call ([], tt) (lent_slice t, (i, tt)) (number_of (answered t c)) ((left t c).table, (tt, tt))
+    (alone t c refl refl, l)))
 
 pub c-traced : (t : List ℕ) → Below (2 ^ 64) t → (calls : List Call) → AllPassed calls → Traced Did t calls
 c-traced = traced Did c-faithful c-some

@@ -40,7 +40,8 @@ module _ (e : ℕ) (H : List ℕ) where
       ∙ blocks-none (width e) (round_words (width e)) (fit (width e) H)
       ∙ fit_same (width e) H b
 
-  pub absorbed-append : (k : ℕ) (a b : List ℕ) → k * block_bytes (width e) ≡ length a → absorbed e H (a ++ b) ≡ absorbed e (absorbed e H a) b
+  pub absorbed-append : (k : ℕ) (a b : List ℕ) → k * block_bytes (width e) ≡ length a → absorbed e H (a ++ b) ≡ absorbed e (absorbed e H a)
+      b
   unfolding absorbed
   absorbed-append k a b l =
       absorb-append (width e) k (fit (width e) H) a b l
@@ -52,6 +53,7 @@ module _ (e : ℕ) (H : List ℕ) where
   absorbed-rest k a b l h = ap (chain (width e) (fit (width e) H)) (parse-rest (width e) k a b l h)
 
   -- of words of the width, absorbing is the block rule over the blocks
-  pub absorbed-chain : (bytes : List ℕ) → Below (2 ^ word (width e)) H → chain (width e) H (parse_bytes (width e) bytes) ≡ absorbed e H bytes
+  pub absorbed-chain : (bytes : List ℕ) → Below (2 ^ word (width e)) H → chain (width e) H (parse_bytes (width e) bytes) ≡ absorbed e H
+      bytes
   unfolding absorbed
   absorbed-chain bytes b = ap (λ (W : List ℕ). chain (width e) W (parse_bytes (width e) bytes)) (sym (fit_same (width e) H b))

@@ -77,7 +77,8 @@ digest-within (suc (suc (suc (suc (suc (suc zero)))))) = omega arith
 digest-within (suc (suc (suc (suc (suc (suc (suc e))))))) = omega arith
 
 -- the row of an edition
-row_of : (l : List Edition) (e : ℕ) → 0 < e → e < length l → get_or (map (λ x. x.start) (drop 1 l)) (e - 1) [] ≡ (get_or l e no_edition).start
+row_of : (l : List Edition) (e : ℕ) → 0 < e → e < length l → get_or (map (λ x. x.start) (drop 1 l)) (e - 1) [] ≡
+    (get_or l e no_edition).start
 row_of [] e h k = absurd (not-suc-le-zero k)
 row_of (x ∷ l) zero h k = absurd (not-suc-le-zero h)
 row_of (x ∷ l) (suc e) h k =

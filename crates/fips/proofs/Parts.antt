@@ -156,5 +156,6 @@ module _ (bytes : List ℕ) (x b : ℕ) (few : b < 8) where
   unfolding closing_in message
   message-closing small none =
       ap₂ (λ (k n : ℕ). value (drop (8 * k) (message bytes x b)) * 2 ^ (8 - n)) message-wholes message-bits
-      ∙ ap (λ (m : List Bool). value m * 2 ^ (8 - b)) (drop_at (bits_of bytes) (take b (bits 8 x)) (8 * length bytes) (length-bits_of bytes))
+      ∙ ap (λ (m : List Bool). value m * 2 ^ (8 - b))
+      (drop_at (bits_of bytes) (take b (bits 8 x)) (8 * length bytes) (length-bits_of bytes))
       ∙ down-up b few x small none

@@ -1,5 +1,6 @@
 -- The constants meet their rules: SPEC, "Constants, by rule". `root_table-rule` is the one law, over the exponent, the width and the
--- primes taken; so `round32-rule`, `round64-rule`, `round-halves` and `start-rule`. `round_words-lt` and `start-lt`: each word is below 2^w.
+-- primes taken; so `round32-rule`, `round64-rule`, `round-halves` and `start-rule`. `round_words-lt` and `start-lt`: each word is below
+-- 2^w.
 use mathlib.Core.Path.{◌≡◌, refl, sym, ap, ◌∙◌}
 use mathlib.Core.List.{List, [], ◌∷◌, map}
 use mathlib.Core.Logic.{◌≢◌}

@@ -30,7 +30,8 @@ sized_of e = go (known e)
   where
     go : (k : Bool) →
         let r = cond k (EditionSizes.Known (word (width e)) (block_bytes (width e)) (digest_bytes e)) EditionSizes.Unknown in
-        Judged (5 when not k ∷ []) no_sizes (sizes (word (width e)) (block_bytes (width e)) (digest_bytes e)) (sizes_number r) (sizes_told r)
+        Judged (5 when not k ∷ []) no_sizes (sizes (word (width e)) (block_bytes (width e)) (digest_bytes e)) (sizes_number r)
+        (sizes_told r)
     go true = record { answer = refl; leaves = refl }
     go false = record { answer = refl; leaves = refl }
 

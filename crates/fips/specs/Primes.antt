@@ -1,5 +1,6 @@
 -- The primes in order: SPEC, "Constants, by rule". `Prime` is the definition of a prime, `primes_below n` computes them.
-use Rattle.std.specs.Prelude.{ℕ, zero, suc, ◌%◌, ◌<◌, Bool, true, ◌&&◌, ◌||◌, not, cond, List, [], ◌∷◌, ◌++◌, ◌⊎◌, ◌≡◌, ltb, eqb, length, get_or}
+use Rattle.std.specs.Prelude.{ℕ, zero, suc, ◌%◌, ◌<◌, Bool, true, ◌&&◌, ◌||◌, not, cond, List, [], ◌∷◌, ◌++◌, ◌⊎◌, ◌≡◌, ltb, eqb, length}
+use Rattle.std.specs.Prelude.{get_or}
 
 -- a number above 1 that only 1 and itself divide
 pub record Prime (n : ℕ) : Type 0 where

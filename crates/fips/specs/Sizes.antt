@@ -1,5 +1,6 @@
 -- What the edition lookup answers: SPEC, "Editions": the sizes of an edition, or 5 of SPEC, "Calls and their numbers", where there is none.
--- `Sized e n told` says that the lookup of e answers the number n and tells those sizes; `sizes_number` and `sizes_told` have the number and
+-- `Sized e n told` says that the lookup of e answers the number n and tells those sizes; `sizes_number` and `sizes_told` have the number
+-- and
 -- the sizes of each case of the enum that it answers with.
 use Rattle.std.specs.Prelude.{ℕ, Bool, true, false, not, [], ◌∷◌, eqb}
 use Rattle.answers.specs.Judged.{◌when◌, Judged}

@@ -54,7 +54,8 @@ module _ (h : HalfRead) (long : length h.tail ≡ tail_room) (ok : sound h ≡ t
       lack size from ≤ length piece →
       g ≡ absorbed h.edition h.words (take (from + lack size from) tail) →
       v ≡ absorbed h.edition g (part_to (lack size from) piece) →
-      {cut : ℕ} → cut ≡ length (part_to (lack size from) piece) / size * size → last ≡ padded (part_to cut (part_to (lack size from) piece)) →
+      {cut : ℕ} → cut ≡ length (part_to (lack size from) piece) / size * size → last ≡ padded (part_to cut (part_to (lack size from) piece))
+      →
       record { edition = h.edition; count = h.count + length piece; words = v; tail = last } ≡ added h piece
   unfolding added
   fills-long {size} {from} {tail} {last} {g} {v} is_size is_from is_tail enough is_g is_v {cut} is_cut is_last =

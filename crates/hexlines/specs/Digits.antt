@@ -1,5 +1,6 @@
 -- Digits, hexadecimal ones in lower case, and what they make: bytes of two digits each, and decimal numbers.
-use Rattle.std.specs.Prelude.{Bool, true, ◌&&◌, not, cond, List, [], ◌∷◌, ◌++◌, ℕ, zero, suc, ◌+◌, ◌-◌, ◌*◌, ◌/◌, ◌%◌, ltb, leb, eqb, length, get_or}
+use Rattle.std.specs.Prelude.{Bool, true, ◌&&◌, not, cond, List, [], ◌∷◌, ◌++◌, ℕ, zero, suc, ◌+◌, ◌-◌, ◌*◌, ◌/◌, ◌%◌, ltb, leb, eqb}
+use Rattle.std.specs.Prelude.{length, get_or}
 use Rattle.hexlines.specs.declared.Number.{Number}
 use Rattle.hexlines.specs.declared.Number.TheVariants.{Is, Not}
 

@@ -50,10 +50,12 @@ module _ (e : ℕ) where
     front is = ap (take (B e)) is ∙ take-padded (block_key e key) (B e) (block_within e) (length-block_key e key)
 
     module _ {block words : List ℕ} (is : block ≡ padded (block_key e key)) where
-      pub inner-words : words ≡ absorbed e (start e) (xored inner_byte (take (B e) block)) → words ≡ absorbed e (start e) (inner_block e key)
+      pub inner-words : words ≡ absorbed e (start e) (xored inner_byte (take (B e) block)) → words ≡ absorbed e (start e)
+          (inner_block e key)
       unfolding inner_block
       inner-words w = w ∙ ap (λ (l : List ℕ). absorbed e (start e) (xored inner_byte l)) (front is)
 
-      pub outer-words : words ≡ absorbed e (start e) (xored outer_byte (take (B e) block)) → words ≡ absorbed e (start e) (outer_block e key)
+      pub outer-words : words ≡ absorbed e (start e) (xored outer_byte (take (B e) block)) → words ≡ absorbed e (start e)
+          (outer_block e key)
       unfolding outer_block
       outer-words w = w ∙ ap (λ (l : List ℕ). absorbed e (start e) (xored outer_byte l)) (front is)

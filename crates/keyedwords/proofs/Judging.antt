@@ -97,4 +97,5 @@ module _ (ws : List ℕ) (enough : keyed_words ≤ length ws) where
       n ≡ first (check_tests ws tag)
   unfolding check_tests
   check-judged tag holds e =
-      e ∙ ap (λ (k : Keyed). first (step.check_tests k tag)) holds ∙ sym (first-skip (few 6 ws) (step.check_tests (keyed_in ws) tag) none-lack)
+      e ∙ ap (λ (k : Keyed). first (step.check_tests k tag)) holds
+      ∙ sym (first-skip (few 6 ws) (step.check_tests (keyed_in ws) tag) none-lack)

@@ -161,7 +161,8 @@ module _ {L : ℕ} {t : List ℕ} {l : List Slot} (f : Follows L t l) where
           ∷ 9 when ltb (length out) (digest_bytes (half_at t i).edition) ∷ []
 
       vs : List Test
-      vs = 4 when not (is_entry (at f i)) ∷ 8 when not (closing_fits x b) ∷ 9 when ltb (length out) (digest_bytes (slot_edition (at f i))) ∷ []
+      vs = 4 when not (is_entry (at f i)) ∷ 8 when not (closing_fits x b) ∷ 9 when ltb (length out) (digest_bytes (slot_edition (at f i))) ∷
+          []
 
       same : i < length l → first us ≡ first vs
       same h =

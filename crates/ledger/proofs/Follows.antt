@@ -24,7 +24,8 @@ use Rattle.bays.specs.Table.{bays_of, room_for, headed, bay_at, put_bay, laid_ou
 use Rattle.bays.specs.Bay.{half_of, bay_of, is_empty, empty_bay, sound_bay}
 use Rattle.bays.specs.Gate.{gate_tests}
 use Rattle.ledger.specs.Ledger.{Entry, Fine, FineSlot, Slot, nothing, entry, entry_length, is_entry, slot_edition, slot_length}
-use Rattle.bays.proofs.Frames.{room_of, bay-inside, length-bay_at, bay_at-put_bay, bay_at-other, length-put_bay, bays_of-put_bay, headed-put_bay}
+use Rattle.bays.proofs.Frames.{room_of, bay-inside, length-bay_at, bay_at-put_bay, bay_at-other, length-put_bay, bays_of-put_bay}
+use Rattle.bays.proofs.Frames.{headed-put_bay}
 use Rattle.bays.proofs.LaidOut.{headed-laid_out, bays_of-laid_out, length-laid_out, bay_at-laid_out}
 use Rattle.bays.proofs.Packing.{half_of-bay_of, bay_of-half_of, shaped-half_of, length-bay_of, taken-bay_of, sound_bay-bay_of}
 use Rattle.bays.proofs.Packing.{zeros-empty, empty-zeros, sound_bay-empty, sound_bay-taken}
@@ -193,7 +194,8 @@ slots_at t i (suc n) (suc k) h =
     slots_at t (suc i) n k (omega arith) ∙ ap (λ (j : ℕ). slot_of (bay_at t j)) (omega arith)
 
 -- the words of the bays are of 64 bits: those of the caller do not count
-pub sound-follows : (t : List ℕ) → SoundTable t → ((i : ℕ) → i < bays_of t → Below (2 ^ 64) (bay_at t i)) → Follows (length t) t (ledger_of t)
+pub sound-follows : (t : List ℕ) → SoundTable t → ((i : ℕ) → i < bays_of t → Below (2 ^ 64) (bay_at t i)) →
+    Follows (length t) t (ledger_of t)
 unfolding ledger_of
 sound-follows t s words =
     record { long = refl; header = s.header; count = sym size; bays = each; fine = fines }

@@ -127,7 +127,8 @@ code-some t (lay_out n) l =
     some Did (lay-out-did (call ([], tt) (lent_slice t, (n, tt)) (answered t c) ((left t c).table, (tt, tt)) (alone t c refl refl, l)))
 code-some t (opening i e) l =
     let c = opening i e in
-    some Did (open-did (call ([], tt) (lent_slice t, (i, (e, tt))) (answered t c) ((left t c).table, (tt, (tt, tt))) (alone t c refl refl, l)))
+    some Did (open-did (call ([], tt) (lent_slice t, (i, (e, tt))) (answered t c) ((left t c).table, (tt, (tt, tt)))
+    (alone t c refl refl, l)))
 code-some t (adding i piece) l =
     let c = adding i piece in
     some Did (add-did

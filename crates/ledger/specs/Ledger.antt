@@ -1,6 +1,7 @@
 -- The plain ledger: SPEC, "The plain ledger". Of a message in a bay it has every byte since the start words, and hashes them all
 -- anew each time. No word of a table is known to it, and none of its answers is 1 or 6.
-use Rattle.std.specs.Prelude.{ℕ, ◌+◌, ◌-◌, ◌*◌, ◌/◌, ◌^◌, Bool, true, false, not, List, [], ◌∷◌, ◌++◌, ◌≡◌, leb, ltb, length, take, drop, get_or, set, replicate}
+use Rattle.std.specs.Prelude.{ℕ, ◌+◌, ◌-◌, ◌*◌, ◌/◌, ◌^◌, Bool, true, false, not, List, [], ◌∷◌, ◌++◌, ◌≡◌, leb, ltb, length, take, drop}
+use Rattle.std.specs.Prelude.{get_or, set, replicate}
 use Rattle.answers.specs.Judged.{Test, ◌when◌, first, after}
 use Rattle.slices.specs.AtFront.{at_front}
 use Rattle.slices.specs.Below.{Below, Bytes}

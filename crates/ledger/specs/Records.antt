@@ -1,4 +1,5 @@
--- The saved record as the plain ledger has it: SPEC, "The saved record". `record_bytes` are its bytes, of an edition, a length, the chaining
+-- The saved record as the plain ledger has it: SPEC, "The saved record". `record_bytes` are its bytes, of an edition, a length, the
+-- chaining
 -- words and a tail; `loads` says which bytes load. That the calls write and take the same is part of the theorem `ledger`.
 use Rattle.std.specs.Prelude.{ℕ, ◌+◌, ◌*◌, ◌%◌, Bool, not, ◌||◌, List, [], ◌∷◌, ◌++◌, leb, eqb, length, take, drop}
 use Rattle.slices.specs.Tests.{holds, same}

@@ -1,4 +1,5 @@
--- Counting verdict by verdict gives each sum: `count-one` counts one, `plus-plus` goes on, and from nothing on it is `tally_of`, `plus-all`.
+-- Counting verdict by verdict gives each sum: `count-one` counts one, `plus-plus` goes on, and from nothing on it is `tally_of`,
+-- `plus-all`.
 -- `Room` says that no count leaves its word.
 use Rattle.std.proofs.Common.{◌≡◌, ℕ, suc, ◌+◌, ◌^◌, ◌<◌, ◌≤◌, List, [], ◌∷◌, length, mod-eq_of_lt, arith}
 use Rattle.lines.specs.declared.Tally.{Tally}

@@ -1,5 +1,6 @@
 -- A number in decimal: the fewest digits that hold it, as `io::decimal` has them, are those of `decimal`.
-use Rattle.std.proofs.Common.{◌≡◌, ℕ, zero, suc, ◌+◌, ◌-◌, ◌*◌, ◌/◌, ◌%◌, ◌^◌, ◌<◌, ◌≤◌, [], ◌∷◌, ◌++◌, ap, ap₂, mod-lt, pow-suc, arith, le-ltb, lt-ltb}
+use Rattle.std.proofs.Common.{◌≡◌, ℕ, zero, suc, ◌+◌, ◌-◌, ◌*◌, ◌/◌, ◌%◌, ◌^◌, ◌<◌, ◌≤◌, [], ◌∷◌, ◌++◌, ap, ap₂, mod-lt, pow-suc, arith}
+use Rattle.std.proofs.Common.{le-ltb, lt-ltb}
 use native.Mathlib.Nat.{one-le-pow}
 use native.Mathlib.Numerals.{unary_clauses}
 use Rattle.io.specs.Digits.{hex_digit_ascii, IsDigitCount}

@@ -1,5 +1,7 @@
 -- One text behind another: `put-put`, two texts are put as their join is, and `behind-behind`, so is the place behind them.
-use Rattle.std.proofs.Common.{◌≡◌, ℕ, ◌+◌, ◌-◌, ◌<◌, ◌≤◌, min, Bool, true, false, leb, List, [], ◌++◌, length, take, drop, sym, refl, ap, ◌∙◌, ap₂, append_assoc, append-nil, arith, leb→le, length-append, length-drop, drop_of_length-le, length-take, take_all, drop-drop}
+use Rattle.std.proofs.Common.{◌≡◌, ℕ, ◌+◌, ◌-◌, ◌<◌, ◌≤◌, min, Bool, true, false, leb, List, [], ◌++◌, length, take, drop, sym, refl, ap}
+use Rattle.std.proofs.Common.{◌∙◌, ap₂, append_assoc, append-nil, arith, leb→le, length-append, length-drop, drop_of_length-le, length-take}
+use Rattle.std.proofs.Common.{take_all, drop-drop}
 use lib.Dec.{nleb→lt}
 use lib.Seq.{take-append_seam, drop-append_seam, take-append-le, take-append-add, drop-append-add}
 use Rattle.slices.proofs.Parts.{take_within, drop-within}
@@ -46,7 +48,8 @@ front-more a b out m e = go (leb (length a) (length out)) refl
         ∙ sym (take-append-le (length out) a b (omega arith))
         ∙ sym (front-full (a ++ b) out (omega (arith, length-append a b))))
 
-    go : (t : Bool) → leb (length a) (length out) ≡ t → take m (at_front a out) ++ at_front b (drop m (at_front a out)) ≡ at_front (a ++ b) out
+    go : (t : Bool) → leb (length a) (length out) ≡ t → take m (at_front a out) ++ at_front b (drop m (at_front a out)) ≡ at_front (a ++ b)
+        out
     go true p = room (leb→le (length a) (length out) (rw p tt))
     go false p = full (nleb→lt (length a) (length out) (rw p tt))
 

@@ -1,6 +1,8 @@
--- In `line_room` bytes each line is whole: `line-whole` and `reason-whole` of every entry of a list, `counts_whole` of the counts of as many
+-- In `line_room` bytes each line is whole: `line-whole` and `reason-whole` of every entry of a list, `counts_whole` of the counts of as
+-- many
 -- files as a list can name, and `not-a-list-whole`. Up to the place that is answered, the output is the line.
-use Rattle.std.proofs.Common.{◌≡◌, ℕ, zero, suc, ◌+◌, ◌/◌, ◌^◌, ◌<◌, ◌≤◌, Bool, true, false, cond, ltb, List, [], ◌∷◌, length, take, pow-suc, arith, length-append, lt-ltb}
+use Rattle.std.proofs.Common.{◌≡◌, ℕ, zero, suc, ◌+◌, ◌/◌, ◌^◌, ◌<◌, ◌≤◌, Bool, true, false, cond, ltb, List, [], ◌∷◌, length, take}
+use Rattle.std.proofs.Common.{pow-suc, arith, length-append, lt-ltb}
 use Rattle.fips.specs.Constants.{ascii}
 use Rattle.fips.specs.Editions.{digest_bytes}
 use Rattle.lists.specs.Calls.{pair_in}

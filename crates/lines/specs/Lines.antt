@@ -1,5 +1,6 @@
 -- The lines that the checker writes: SPEC, "The program".
--- `line_of` is the line of a file, `reason_line` says why it is missing, `count_line` is the last one, `not_a_list` the only one where there is
+-- `line_of` is the line of a file, `reason_line` says why it is missing, `count_line` is the last one, `not_a_list` the only one where
+-- there is
 -- no list; `tally_of` counts verdicts.
 use Rattle.std.specs.Prelude.{ℕ, zero, suc, ◌+◌, ◌/◌, ◌%◌, cond, List, [], ◌∷◌, ◌++◌, length, nat_lt}
 use Prim.Native.String.{String}

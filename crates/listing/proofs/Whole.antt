@@ -1,4 +1,5 @@
--- In `say_room` bytes each line is whole: `refusal-whole` of every name and reason, and `made-whole` of a list's length and count. Up to the
+-- In `say_room` bytes each line is whole: `refusal-whole` of every name and reason, and `made-whole` of a list's length and count. Up to
+-- the
 -- place that is answered, the output is the line.
 use Prim.Native.Nat.{ℕ, ◌+◌, ◌^◌, ◌≤◌, ◌<◌}
 use Prim.Native.String.{String}

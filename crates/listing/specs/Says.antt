@@ -1,4 +1,5 @@
--- The lines of the list maker: SPEC, "The list maker". `made_line` is the one on standard output, `refusal_line` says on standard error why a
+-- The lines of the list maker: SPEC, "The list maker". `made_line` is the one on standard output, `refusal_line` says on standard error why
+-- a
 -- name is not listed.
 use Rattle.std.specs.Prelude.{ℕ, cond, List, ◌++◌, eqb, take}
 use Prim.Native.String.{String}

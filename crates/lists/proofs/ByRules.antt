@@ -204,7 +204,8 @@ right-header bs e = record {
   edition-known = holds_at _ e 1;
   few = leb-true (count_in bs) most_entries (holds_at _ e 2);
   entries-field = eqb-true (field_in bs entries_field_at offset_size) entries_at (holds_at _ (holds_at _ e 3) 0);
-  names-field = eqb-true (field_in bs names_field_at offset_size) (names_at (count_in bs) (digest_size_in bs)) (holds_at _ (holds_at _ e 3) 1);
+  names-field = eqb-true (field_in bs names_field_at offset_size) (names_at (count_in bs) (digest_size_in bs))
+      (holds_at _ (holds_at _ e 3) 1);
   whole-field = eqb-true (field_in bs whole_field_at offset_size) (length bs) (holds_at _ (holds_at _ e 3) 2);
   within = leb-true (names_at (count_in bs) (digest_size_in bs)) (length bs) (holds_at _ (holds_at _ e 3) 3);
 }
@@ -262,7 +263,8 @@ unfolding by_rules
 accepted-header bs e = right-header bs (cond_both (header_right bs) _ (accepted-right bs e)).0
 
 pub accepted-entries : (bs : List ℕ) → accepted bs ≡ true →
-    entries_right (count_in bs) (entry_size (digest_size_in bs)) [] (names_at (count_in bs) (digest_size_in bs)) (drop entries_at bs) bs ≡ true
+    entries_right (count_in bs) (entry_size (digest_size_in bs)) [] (names_at (count_in bs) (digest_size_in bs)) (drop entries_at bs) bs ≡
+    true
 unfolding by_rules
 accepted-entries bs e = (cond_both (header_right bs) _ (accepted-right bs e)).1
 
@@ -279,6 +281,7 @@ module _ (bs : List ℕ) (n d : ℕ) (pn : n ≡ count_in bs) (pd : d ≡ digest
   pub entries-few : n ≤ most_entries
   entries-few = rw pn (right-header bs h).few
 
-  pub entries-decide : (r : Bool) → Bytes bs → r ≡ entries_right n (entry_size d) [] (names_at n d) (drop entries_at bs) bs → r ≡ accepted bs
+  pub entries-decide : (r : Bool) → Bytes bs → r ≡ entries_right n (entry_size d) [] (names_at n d) (drop entries_at bs) bs →
+      r ≡ accepted bs
   unfolding by_rules
   entries-decide r b q = q ∙ rw (pd, pn) (rw h at (by-rules bs b))

@@ -57,7 +57,8 @@ module _ (m i size at next : ℕ) (last bs : List ℕ) (h : i < m) where
       let s : m - i ≡ suc (m - (i + 1)) = omega arith in
       (cond_both (entry_right last next (drop at bs) bs) _ (rw s at e)).0
 
-pub entry-fits : (at next : ℕ) (last bs : List ℕ) (len : ℕ) → len ≡ name_length (drop at bs) → entry_right last next (drop at bs) bs ≡ true →
+pub entry-fits : (at next : ℕ) (last bs : List ℕ) (len : ℕ) → len ≡ name_length (drop at bs) → entry_right last next (drop at bs) bs ≡ true
+    →
     len ≤ length bs - next
 entry-fits at next last bs len p e = rw p (right-entry last next (drop at bs) bs e).within
 

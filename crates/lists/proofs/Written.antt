@@ -18,7 +18,8 @@ use Rattle.slices.specs.Parts.{part}
 use Rattle.slices.specs.Tests.{every}
 use Rattle.slices.proofs.Tests.{holds_at, cond_both}
 use Rattle.lists.specs.Lists.{Pair, DigestList, most_entries, longest_name, name_allowed, pair_allowed, ascending, valid}
-use Rattle.lists.specs.Layout.{offset_size, entries_field_at, names_field_at, whole_field_at, entries_at, entry_head, entry_size, longest_list}
+use Rattle.lists.specs.Layout.{offset_size, entries_field_at, names_field_at, whole_field_at, entries_at, entry_head, entry_size}
+use Rattle.lists.specs.Layout.{longest_list}
 use Rattle.lists.specs.Layout.{list_row, entry_row, entry_bytes, entry_run, name_run, names_of, whole_length, list_bytes}
 use Rattle.lists.specs.Layout.{edition_in, count_in, name_offset, name_length, read_pairs, read_list}
 use Rattle.lists.proofs.Allowed.{name-short}

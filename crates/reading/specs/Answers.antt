@@ -1,4 +1,5 @@
--- What a read of a reader answered, in the two numbers that `report` reads: its number of bytes, or one below 0 and the number of the error.
+-- What a read of a reader answered, in the two numbers that `report` reads: its number of bytes, or one below 0 and the number of the
+-- error.
 use Rattle.std.specs.Prelude.{ℕ, ℤ, pos, negsuc, Option, None, Some, Result, Ok, Err}
 use Rattle.std.specs.IoError.{raw_os_error}
 use Rattle.std.specs.declared.io.Error.{Error}

@@ -60,7 +60,8 @@ module _ (f : Form) (bytes : List ℕ) where
   chain-read : (j : ℕ) → j < word_count → get_or H.words j 0 ≡ chain_in f bytes j
   unfolding read_in
   chain-read j p =
-      get_or-to_words word_count n (drop (words_at f) bytes) j p ∙ ap (λ (l : List ℕ). number (take n l)) (drop-drop (j * n) (words_at f) bytes)
+      get_or-to_words word_count n (drop (words_at f) bytes) j p ∙ ap (λ (l : List ℕ). number (take n l))
+      (drop-drop (j * n) (words_at f) bytes)
 
   tail-read : length bytes ≡ tail_from + left_in f bytes → (k : ℕ) → k < tail_room → get_or H.tail k 0 ≡ tail_in f bytes k
   unfolding read_in
@@ -78,7 +79,8 @@ module _ (f : Form) (bytes : List ℕ) where
 module _ (f : Form) where
   -- one field of what is written
   written : (h : HalfRead) (i : ℕ) → (get_or (header f h) i no_field).value < 256 ^ (get_or (header f h) i no_field).bytes →
-      field_in (record_in f h) (get_or (header f h) i no_field).place (get_or (header f h) i no_field).bytes ≡ (get_or (header f h) i no_field).value
+      field_in (record_in f h) (get_or (header f h) i no_field).place (get_or (header f h) i no_field).bytes ≡
+      (get_or (header f h) i no_field).value
   unfolding record_in
   written h i p = field-read (header f h) (from_words (width h.edition).bytes h.words ++ pending h) i (header-in-order f h) p
 

@@ -26,7 +26,8 @@ to_end s at = take_all (length s) (drop at s) (rw (length-drop at s) (omega arit
 
 pub fields-law : (f : Form) → f.count_bytes ≤ 8 → (s : List ℕ) → Bytes s → {e c size at : ℕ} {ws t : List ℕ} →
     e ≡ word64 (field_in s 0 2) → c ≡ word64 (field_in s count_at f.count_bytes) → size ≡ block_bytes (width e) →
-    ws ≡ map word64 (to_words word_count (size / 16) (part s (words_at f) (length s))) → at ≡ tail_at f e → t ≡ padded (part s at (length s)) →
+    ws ≡ map word64 (to_words word_count (size / 16) (part s (words_at f) (length s))) → at ≡ tail_at f e →
+    t ≡ padded (part s at (length s)) →
     record { edition = e; count = c; words = ws; tail = t } ≡ read_in f s
 unfolding read_in
 fields-law f short s bytes {e} {c} {size} {at} {ws} {t} is_e is_c is_size is_ws is_at is_t =

@@ -44,7 +44,8 @@ module _ (e : ℕ) (listed : List ℕ) where
   missing-means (no_file w) why h = ap no_file (ap (reason_of w) h)
   missing-means (bytes m) why h = absurd (found (asked m) why h)
 
-  pub ok-where : (m : List ℕ) → too_long e 0 (length m) ≡ false → digest e (message m 0 0) ≡ listed → verdict e listed (bytes m) ≡ Verdict.Ok
+  pub ok-where : (m : List ℕ) → too_long e 0 (length m) ≡ false → digest e (message m 0 0) ≡ listed → verdict e listed (bytes m) ≡
+      Verdict.Ok
   unfolding verdict
   ok-where m short is = rw (short, eq-same (digest e (message m 0 0)) listed is)
 

@@ -1,4 +1,5 @@
--- Writing at the front of an output: laws of `at_front`, and of the loop that writes it. What is behind stays (`drop-front`), so that of two
+-- Writing at the front of an output: laws of `at_front`, and of the loop that writes it. What is behind stays (`drop-front`), so that of
+-- two
 -- writings of one length the later counts (`front-again`).
 use Prim.Native.Nat.{ℕ, zero, suc, ◌+◌, ◌-◌, ◌≤◌, ◌<◌}
 use mathlib.Core.Bool.{Bool, true, false}

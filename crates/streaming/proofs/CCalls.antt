@@ -71,7 +71,8 @@ pub record Puts (s : Stream) (ws left : List ℕ) : Type 0 where
   pub long : length left ≡ length ws
   pub holds : stream_in left ≡ s
 
-puts : (s : Stream) (ws left : List ℕ) → stream_words ≤ length ws → left ≡ at_front (words_of s) ws → stream_in (at_front (words_of s) ws) ≡ s →
+puts : (s : Stream) (ws left : List ℕ) → stream_words ≤ length ws → left ≡ at_front (words_of s) ws → stream_in (at_front (words_of s) ws) ≡
+    s →
     Puts s ws left
 puts s ws left enough is there =
     record { enough = enough; is = is; long = ap length is ∙ length-at_front (words_of s) ws; holds = ap stream_in is ∙ there }

@@ -142,8 +142,10 @@ pub holds-shaped : (ws : List ℕ) → stream_words ≤ length ws → Shaped (st
 unfolding stream_in
 holds-shaped ws enough =
     record {
-      roots = length-from_words 8 (part ws roots_from root_words) ∙ ap (λ (n : ℕ). n * 8) (length_part roots_from root_words ws (omega arith));
-      bytes = length-from_words 8 (part ws bytes_from byte_words) ∙ ap (λ (n : ℕ). n * 8) (length_part bytes_from byte_words ws (omega arith));
+      roots = length-from_words 8 (part ws roots_from root_words)
+          ∙ ap (λ (n : ℕ). n * 8) (length_part roots_from root_words ws (omega arith));
+      bytes = length-from_words 8 (part ws bytes_from byte_words)
+          ∙ ap (λ (n : ℕ). n * 8) (length_part bytes_from byte_words ws (omega arith));
     }
 
 two-words : (ws : List ℕ) → roots_from ≤ length ws → get_or ws chunks_word 0 ∷ get_or ws further_word 0 ∷ drop roots_from ws ≡ ws

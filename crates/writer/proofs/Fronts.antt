@@ -21,7 +21,8 @@ use Rattle.slices.proofs.AtFront.{length-at_front, at_front-room}
 use Rattle.slices.proofs.Parts.{drop-within, part-front}
 use Rattle.slices.proofs.Tests.{below-all_below}
 use Rattle.lists.specs.Calls.{listed}
-use Rattle.lists.specs.Layout.{offset_size, whole_field_at, entries_at, entry_size, name_run, whole_length, list_bytes, edition_in, digest_size_in}
+use Rattle.lists.specs.Layout.{offset_size, whole_field_at, entries_at, entry_size, name_run, whole_length, list_bytes, edition_in}
+use Rattle.lists.specs.Layout.{digest_size_in}
 use Rattle.lists.specs.Layout.{read_list, accepted}
 use Rattle.lists.specs.Lists.{DigestList, most_entries, name_allowed, pair_allowed, ascending, valid}
 use Rattle.lists.proofs.ByRules.{accepted-header}

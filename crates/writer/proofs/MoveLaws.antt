@@ -103,7 +103,8 @@ entry-behind : (d at : ℕ) (p : Pair) (rest : List ℕ) → AllowedPair d p →
     part (entry_bytes at p ++ rest) offset_size (entry_size d - offset_size) ≡ behind_offset p
 entry-behind d at p rest a =
     let o = be offset_size at in
-    let joined : entry_bytes at p ++ rest ≡ o ++ (behind_offset p ++ rest) = rw (entry-split at p) (append_assoc o (behind_offset p) rest) in
+    let joined : entry_bytes at p ++ rest ≡ o ++ (behind_offset p ++ rest) = rw (entry-split at p) (append_assoc o (behind_offset p) rest)
+    in
     let long : length (behind_offset p) ≡ entry_size d - offset_size = simp (length-append, length-be, a.sized) (omega arith) in
     rw (joined, drop_at o (behind_offset p ++ rest) offset_size (length-be offset_size at)) (take_at (behind_offset p) rest _ long)
 

@@ -16,7 +16,8 @@ loop-t-preserved c = let m = to_words 16 8 c.args.s.now in (
   omega arith,
   omega arith,
   schedule-more-8 w64 m 80 c.loop-t.w c.loop-t.t (omega arith) (omega arith) (c.extend.ensures m) (c.extend-in-loop-t.ensures m)
-      (c.extend-in-loop-t-2.ensures m) (c.extend-in-loop-t-3.ensures m) (c.extend-in-loop-t-4.ensures m) (c.extend-in-loop-t-5.ensures m) (c.extend-in-loop-t-6.ensures m)
+      (c.extend-in-loop-t-2.ensures m) (c.extend-in-loop-t-3.ensures m) (c.extend-in-loop-t-4.ensures m) (c.extend-in-loop-t-5.ensures m)
+      (c.extend-in-loop-t-6.ensures m)
       (c.extend-in-loop-t-7.ensures m) c.loop-t.invariant.2,
 )
 

@@ -25,7 +25,8 @@ ready c = taken-passed _ _ (sym c.taken_at-taken.ensures.answer ∙ ap number_of
 
 pub returns-in_default-answer : goal.returns-in_default-answer
 returns-in_default-answer c = let k = c.taken_at-taken in record {
-  outcome = add-refused c.args.table.now c.args.bay (ready (goal.at.returns-in_default-answer c).In-Done).gate c.args.piece.now (ready (goal.at.returns-in_default-answer c).In-Done).full c.add-added.result.answer
+  outcome = add-refused c.args.table.now c.args.bay (ready (goal.at.returns-in_default-answer c).In-Done).gate c.args.piece.now
+      (ready (goal.at.returns-in_default-answer c).In-Done).full c.add-added.result.answer
       k.result.half c.add-added.result.half (done-leaves k.ensures c.in-Done.is) c.add-added.ensures
       (not_done c.add-added.result.answer c.in_default-answer.not-Done);
   lends = lends (goal.at.returns-in_default-answer c).After-shared_slice_known-1;
@@ -33,7 +34,8 @@ returns-in_default-answer c = let k = c.taken_at-taken in record {
 
 pub returns : goal.returns
 returns c = let k = c.taken_at-taken in record {
-  outcome = added-at c.args.table.now c.args.bay (ready (goal.at.returns c).In-Done).gate c.args.piece.now (ready (goal.at.returns c).In-Done).full c.add-added.result.answer
+  outcome = added-at c.args.table.now c.args.bay (ready (goal.at.returns c).In-Done).gate c.args.piece.now
+      (ready (goal.at.returns c).In-Done).full c.add-added.result.answer
       k.result.half c.add-added.result.half (done-leaves k.ensures c.in-Done.is) c.add-added.ensures
       c.in-Done-answer.is c.put_at.new.table (c.put_at.ensures ∙ gate-writes _ _ (ready (goal.at.returns c).In-Done).gate);
   lends = lends (goal.at.returns c).After-shared_slice_known-1;

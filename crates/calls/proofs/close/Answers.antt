@@ -24,7 +24,8 @@ ready c = taken-passed _ _ (sym c.taken_at-taken.ensures.answer ∙ ap number_of
 
 pub returns-in_default-closed : goal.returns-in_default-closed
 returns-in_default-closed c = let k = c.taken_at-taken in record {
-  outcome = close-refused c.args.table.now c.args.bay (ready (goal.at.returns-in_default-closed c).In-Done).gate c.args.closing c.args.bits c.args.out.now
+  outcome = close-refused c.args.table.now c.args.bay (ready (goal.at.returns-in_default-closed c).In-Done).gate c.args.closing c.args.bits
+      c.args.out.now
       (ready (goal.at.returns-in_default-closed c).In-Done).full c.close-closed.result k.result.half c.close-closed.new.out
       (done-leaves k.ensures c.in-Done.is) c.close-closed.ensures (not_done c.close-closed.result c.in_default-closed.not-Done);
   lends = lends (goal.at.returns-in_default-closed c).After-slice_known-1;

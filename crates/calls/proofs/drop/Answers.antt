@@ -23,7 +23,8 @@ ready c = taken-passed _ _ (sym c.gate_taken-passed.ensures ∙ ap number_of c.i
 
 pub returns : goal.returns
 returns c = record {
-  outcome = dropped c.args.table.now c.args.bay (ready (goal.at.returns c).In-Done).gate (ready (goal.at.returns c).In-Done).full c.clear_at.new.table
+  outcome = dropped c.args.table.now c.args.bay (ready (goal.at.returns c).In-Done).gate (ready (goal.at.returns c).In-Done).full
+      c.clear_at.new.table
       (c.clear_at.ensures ∙ gate-writes _ _ (ready (goal.at.returns c).In-Done).gate);
   lends = lends (goal.at.returns c).After-slice_known-1;
 }

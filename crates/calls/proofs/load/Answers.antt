@@ -27,7 +27,8 @@ passed c = sym c.gate-passed.ensures ∙ ap number_of c.in-Done.is
 pub returns-in_default-answer : goal.returns-in_default-answer
 returns-in_default-answer c = record {
   outcome = load-refused c.args.table.now c.args.bay (passed (goal.at.returns-in_default-answer c).In-Done) c.args.«record».now
-      c.load-loaded.result.answer c.load-loaded.result.half c.load-loaded.ensures (not_done c.load-loaded.result.answer c.in_default-answer.not-Done);
+      c.load-loaded.result.answer c.load-loaded.result.half c.load-loaded.ensures
+      (not_done c.load-loaded.result.answer c.in_default-answer.not-Done);
   lends = lends (goal.at.returns-in_default-answer c).After-shared_slice_known-1;
 }
 

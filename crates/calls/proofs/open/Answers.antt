@@ -40,14 +40,17 @@ is_known c = sym c.known.ensures ∙ c.if-not-known.false
 
 pub returns-in_default-free : goal.returns-in_default-free
 returns-in_default-free c = record {
-  outcome = open-refused c.args.table.now c.args.bay (passed (goal.at.returns-in_default-free c).In-Done) c.args.edition (is_known (goal.at.returns-in_default-free c).Else-not-known) c.gate_free-free.result
-      (free-first _ _ (passed (goal.at.returns-in_default-free c).In-Done) c.gate_free-free.ensures) (not_done c.gate_free-free.result c.in_default-free.not-Done);
+  outcome = open-refused c.args.table.now c.args.bay (passed (goal.at.returns-in_default-free c).In-Done) c.args.edition
+      (is_known (goal.at.returns-in_default-free c).Else-not-known) c.gate_free-free.result
+      (free-first _ _ (passed (goal.at.returns-in_default-free c).In-Done) c.gate_free-free.ensures)
+      (not_done c.gate_free-free.result c.in_default-free.not-Done);
   lends = lends (goal.at.returns-in_default-free c).After-slice_known-1;
 }
 
 pub returns : goal.returns
 returns c = record {
-  outcome = opened-at c.args.table.now c.args.bay (passed (goal.at.returns c).In-Done) c.args.edition (is_known (goal.at.returns c).Else-not-known)
+  outcome = opened-at c.args.table.now c.args.bay (passed (goal.at.returns c).In-Done) c.args.edition
+      (is_known (goal.at.returns c).Else-not-known)
       (sym (free-first _ _ (passed (goal.at.returns c).In-Done) c.gate_free-free.ensures) ∙ ap number_of c.in-Done-free.is)
       c.put_at.new.table
       (c.put_at.ensures

@@ -23,7 +23,8 @@ ready c = taken-passed _ _ (sym c.taken_at-taken.ensures.answer ∙ ap number_of
 
 pub returns : goal.returns
 returns c = let k = c.taken_at-taken in record {
-  outcome = save-held c.args.table.now c.args.bay (ready (goal.at.returns c).In-Done).gate c.args.out.now (ready (goal.at.returns c).In-Done).full c.save.result k.result.half
+  outcome = save-held c.args.table.now c.args.bay (ready (goal.at.returns c).In-Done).gate c.args.out.now
+      (ready (goal.at.returns c).In-Done).full c.save.result k.result.half
       c.save.new.out (done-leaves k.ensures c.in-Done.is) c.save.ensures;
   lends = lends (goal.at.returns c).After-shared_slice_known-1;
 }

@@ -26,7 +26,8 @@ unfolding bytes_of
 one_more s d₀ i h =
     let v = byte_of (get_or s (2 * i) 0) (get_or s (2 * i + 1) 0) in
     rw (drop-cons d₀ i 0 h)
-    (set_at (bytes_of s i) (get_or d₀ i 0) (drop (suc i) d₀) v i (length-bytes_of s i) ∙ sym (append_snoc (bytes_of s i) v (drop (suc i) d₀)))
+    (set_at (bytes_of s i) (get_or d₀ i 0) (drop (suc i) d₀) v i (length-bytes_of s i)
+    ∙ sym (append_snoc (bytes_of s i) v (drop (suc i) d₀)))
 
 turn : (s d₀ : List ℕ) (n : ℕ) (d : List ℕ) (i v : ℕ) → i < n → i < length d → v ≡ byte_of (get_or s (2 * i) 0) (get_or s (2 * i + 1) 0)
     → Filled s d₀ n d i → Filled s d₀ n (set d i v) (i + 1)

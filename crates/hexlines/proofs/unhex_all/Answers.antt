@@ -30,7 +30,9 @@ pub returns-then-not-is_hex : goal.returns-then-not-is_hex
 returns-then-not-is_hex c = record { value = no-hex _ _ (sym c.is_hex.ensures ∙ c.if-not-is_hex.true); d_after = nothing _ _ }
 
 pub returns-then-d-s : goal.returns-then-d-s
-returns-then-d-s c = let hex = sym c.is_hex.ensures ∙ c.if-not-is_hex.false in record { value = no_room _ _ hex c.if-d-s.true; d_after = nothing _ _ }
+returns-then-d-s c = let hex = sym c.is_hex.ensures ∙ c.if-not-is_hex.false in
+    record { value = no_room _ _ hex c.if-d-s.true; d_after = nothing _ _ }
 
 pub returns : goal.returns
-returns c = let hex = sym c.is_hex.ensures ∙ c.if-not-is_hex.false in record { value = all_there _ _ _ hex c.if-d-s.false c.unhex.ensures.value; d_after = c.unhex.ensures.d_after }
+returns c = let hex = sym c.is_hex.ensures ∙ c.if-not-is_hex.false in
+    record { value = all_there _ _ _ hex c.if-d-s.false c.unhex.ensures.value; d_after = c.unhex.ensures.d_after }

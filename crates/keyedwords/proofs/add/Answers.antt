@@ -18,10 +18,23 @@ lends c = ((λ i. (c.slice_known-1.given i).fits), (λ i. (c.shared_slice_known-
 
 pub returns-then-words-lt-WORDS : goal.returns-then-words-lt-WORDS
 unfolding add_tests first
-returns-then-words-lt-WORDS c = record { adds = refused (rw (lt-ltb _ keyed_words c.if-words-lt-WORDS.true)) tt refl; lends_piece = lends (goal.at.returns-then-words-lt-WORDS c).After-shared_slice_known-1 }
+returns-then-words-lt-WORDS c = record {
+  adds = refused (rw (lt-ltb _ keyed_words c.if-words-lt-WORDS.true)) tt refl;
+  lends_piece =
+      lends (goal.at.returns-then-words-lt-WORDS c).After-shared_slice_known-1;
+}
 
 pub returns-in_default : goal.returns-in_default
-returns-in_default c = record { adds = add-refused _ c.if-words-lt-WORDS.false _ c.unpack.ensures c.add-added.ensures.judged (not_done c.add-added.result.answer c.in_default.not-Done); lends_piece = lends (goal.at.returns-in_default c).After-shared_slice_known-1 }
+returns-in_default c =
+    record {
+      adds = add-refused _ c.if-words-lt-WORDS.false _ c.unpack.ensures c.add-added.ensures.judged
+          (not_done c.add-added.result.answer c.in_default.not-Done);
+      lends_piece =
+          lends (goal.at.returns-in_default c).After-shared_slice_known-1;
+    }
 
 pub returns : goal.returns
-returns c = record { adds = add_done _ c.if-words-lt-WORDS.false _ c.unpack.ensures c.add-added.ensures.judged c.in-Done.is c.pack.ensures; lends_piece = lends (goal.at.returns c).After-shared_slice_known-1 }
+returns c = record {
+  adds = add_done _ c.if-words-lt-WORDS.false _ c.unpack.ensures c.add-added.ensures.judged c.in-Done.is c.pack.ensures;
+  lends_piece = lends (goal.at.returns c).After-shared_slice_known-1;
+}

@@ -25,7 +25,8 @@ pub slice_bounds-put_words_front-start : goal.slice_bounds-put_words_front-start
 slice_bounds-put_words_front-start c = omega (arith, ap length c.put_words_front.ensures ∙ length-at_front _ _)
 
 pub returns : goal.returns
-returns c = packed c.args.words.now c.args.keyed c.requires (inner-long (goal.at.returns c).After-slice_known-1) (outer-long (goal.at.returns c).After-slice_known-1) c.words_of-inner.ensures
+returns c = packed c.args.words.now c.args.keyed c.requires (inner-long (goal.at.returns c).After-slice_known-1)
+    (outer-long (goal.at.returns c).After-slice_known-1) c.words_of-inner.ensures
     c.put_words_front.ensures c.put_words_front-2.ensures
 
 pub shape_of-words : goal.shape_of-words

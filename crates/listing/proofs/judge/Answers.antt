@@ -7,7 +7,8 @@ pub returns-then-not-allowed : goal.returns-then-not-allowed
 returns-then-not-allowed c = has-byte _ _ c.if-name-lt1.false c.if-name-gt-LONGEST.false (sym c.allowed.ensures ∙ c.if-not-allowed.true)
 
 pub returns-then-before-ge-MOST_ENTRIES : goal.returns-then-before-ge-MOST_ENTRIES
-returns-then-before-ge-MOST_ENTRIES c = is-full _ _ c.if-name-lt1.false c.if-name-gt-LONGEST.false (sym c.allowed.ensures ∙ c.if-not-allowed.false)
+returns-then-before-ge-MOST_ENTRIES c = is-full _ _ c.if-name-lt1.false c.if-name-gt-LONGEST.false
+    (sym c.allowed.ensures ∙ c.if-not-allowed.false)
     c.if-before-ge-MOST_ENTRIES.true
 
 pub returns : goal.returns

@@ -18,7 +18,7 @@ use Rattle.fips.proofs.Editions.{digest-short}
 use Rattle.lists.proofs.Places.{found, found_in, is_found}
 use Rattle.lists.proofs.Walk.{one_less, entries-on, entries-first, entry-fits, place-on, place-over}
 use Rattle.lists.proofs.find.Goals as goal
-use Rattle.lists.proofs.find.Goals.{After-digest_size-digest, Start}
+use Rattle.lists.proofs.find.Goals.{After-digest_size-digest}
 use Rattle.lists.proofs.find.Invariants.{Left}
 
 module _ (bs : List ℕ) (count d : ℕ) (a : accepted bs ≡ true) (pn : count ≡ count_in bs) (pd : d ≡ digest_size_in bs) where

@@ -6,10 +6,15 @@ use Rattle.lists.proofs.lookup.Goals as goal
 
 pub returns-in-At : goal.returns-in-At
 returns-in-At c = let j = c.find.ensures in
-    let e = c.in-At.is in record { result_value = c.part.ensures.result_value ∙ (found_at _ _ j e).here; lies_at = lies-also (found-place _ _ j e) c.part.ensures.lies_at }
+    let e = c.in-At.is in record {
+      result_value = c.part.ensures.result_value ∙ (found_at _ _ j e).here;
+      lies_at =
+          lies-also (found-place _ _ j e) c.part.ensures.lies_at;
+    }
 
 pub returns-in-NotListed : goal.returns-in-NotListed
-returns-in-NotListed c = let n = found_nowhere _ _ c.find.ensures c.in-NotListed.is in record { result_value = nowhere-none _ _ n.0 n.1; lies_at = lies-first refl refl refl }
+returns-in-NotListed c = let n = found_nowhere _ _ c.find.ensures c.in-NotListed.is in
+    record { result_value = nowhere-none _ _ n.0 n.1; lies_at = lies-first refl refl refl }
 
 pub returns-in-NotAList : goal.returns-in-NotAList
 returns-in-NotAList c = record {

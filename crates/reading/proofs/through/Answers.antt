@@ -1,3 +1,4 @@
+-- `reading::through` meets its contract: a file that was not opened is not read, and one that was is met in pieces.
 use mathlib.Core.Path.{refl}
 use Rattle.report.specs.Code.Program.{unread}
 use Rattle.report.proofs.Pieces.{led}

@@ -21,7 +21,8 @@ soundness : (c : After-is_sound) → c.is_sound.result ≡ sound (loaded c.args.
 soundness c = c.is_sound.ensures ∙ ap sound c.fields-half.ensures
 
 pub returns-then-not-is_sound : goal.returns-then-not-is_sound
-returns-then-not-is_sound c = no_record c.args.lent.now (not_sound _ (sym (soundness (goal.at.returns-then-not-is_sound c).After-is_sound) ∙ c.if-not-is_sound.true))
+returns-then-not-is_sound c = no_record c.args.lent.now
+    (not_sound _ (sym (soundness (goal.at.returns-then-not-is_sound c).After-is_sound) ∙ c.if-not-is_sound.true))
     c.refused.ensures.0 c.refused.ensures.1
 
 pub slice_bounds-bytes-end : goal.slice_bounds-bytes-end
@@ -37,15 +38,18 @@ compared c =
     c.fields-half.ensures c.record_of-bytes.ensures c.record_length-size.ensures c.same_bytes.ensures
 
 pub returns-then-not-same_bytes : goal.returns-then-not-same_bytes
-returns-then-not-same_bytes c = no_record c.args.lent.now (not_same _ (sym (compared (goal.at.returns-then-not-same_bytes c).After-same_bytes) ∙ c.if-not-same_bytes.true))
+returns-then-not-same_bytes c = no_record c.args.lent.now
+    (not_same _ (sym (compared (goal.at.returns-then-not-same_bytes c).After-same_bytes) ∙ c.if-not-same_bytes.true))
     c.refused-then-not-same_bytes.ensures.0 c.refused-then-not-same_bytes.ensures.1
 
 pub returns : goal.returns
 unfolding load_tests first
 returns c = let whole =
-    both-pass _ (sym (soundness (goal.at.returns c).After-is_sound) ∙ c.if-not-is_sound.false) (sym (compared (goal.at.returns c).After-same_bytes) ∙ c.if-not-same_bytes.false)
+    both-pass _ (sym (soundness (goal.at.returns c).After-is_sound) ∙ c.if-not-is_sound.false)
+    (sym (compared (goal.at.returns c).After-same_bytes) ∙ c.if-not-same_bytes.false)
     in
     done (rw whole) c.fields-half.ensures
 
 pub slice_bounds-same_bytes-end : goal.slice_bounds-same_bytes-end
-slice_bounds-same_bytes-end c = sym (length-take-le _ _ (slice_bounds-bytes-end (goal.at.slice_bounds-same_bytes-end c).After-record_length-size))
+slice_bounds-same_bytes-end c =
+    sym (length-take-le _ _ (slice_bounds-bytes-end (goal.at.slice_bounds-same_bytes-end c).After-record_length-size))

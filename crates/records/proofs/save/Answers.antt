@@ -26,7 +26,12 @@ is-sound c = sym c.is_sound.ensures ∙ c.if-not-is_sound.false
 
 pub returns-then-out-size : goal.returns-then-out-size
 unfolding save_tests first
-returns-then-out-size c = refused (rw (is-sound (goal.at.returns-then-out-size c).Else-not-is_sound, ← c.record_length-size.ensures, lt-ltb _ _ c.if-out-size.true)) tt refl
+returns-then-out-size c =
+    refused (rw (
+      is-sound (goal.at.returns-then-out-size c).Else-not-is_sound,
+      ← c.record_length-size.ensures,
+      lt-ltb _ _ c.if-out-size.true,
+    )) tt refl
 
 pub slice_bounds-bytes-end : goal.slice_bounds-bytes-end
 slice_bounds-bytes-end c = let long : length c.record_of-bytes.result ≡ longest newest = search rules in
@@ -41,4 +46,5 @@ returns c = let out = c.args.out.now in
     (ap (λ (k : ℕ). take k c.record_of-bytes.result) c.record_length-size.ensures ∙ c.record_of-bytes.ensures))
 
 pub slice_bounds-put_front-end : goal.slice_bounds-put_front-end
-slice_bounds-put_front-end c = sym (length-take-le _ _ (slice_bounds-bytes-end (goal.at.slice_bounds-put_front-end c).After-put_front-arg-1))
+slice_bounds-put_front-end c =
+    sym (length-take-le _ _ (slice_bounds-bytes-end (goal.at.slice_bounds-put_front-end c).After-put_front-arg-1))

@@ -21,11 +21,16 @@ bytes-bytes c i = search rules
 -- the roots put, the words are as many as before
 
 pub slice_bounds-get_words-end-3 : goal.slice_bounds-get_words-end-3
-slice_bounds-get_words-end-3 c = omega
-    (arith, c.requires, with-long c.args.words.now c.args.stream c.requires (λ i. (roots-bytes (goal.at.slice_bounds-get_words-end-3 c).After-bytes-1 i).fits) c.get_words.ensures)
+slice_bounds-get_words-end-3 c = omega (
+  arith,
+  c.requires,
+  with-long c.args.words.now c.args.stream c.requires
+      (λ i. (roots-bytes (goal.at.slice_bounds-get_words-end-3 c).After-bytes-1 i).fits) c.get_words.ensures,
+)
 
 pub returns : goal.returns
-returns c = packed c.args.words.now c.args.stream c.requires (λ i. (roots-bytes (goal.at.returns c).After-bytes-1 i).fits) c.get_words.ensures
+returns c = packed c.args.words.now c.args.stream c.requires (λ i. (roots-bytes (goal.at.returns c).After-bytes-1 i).fits)
+    c.get_words.ensures
     (λ i. (bytes-bytes (goal.at.returns c).After-bytes-1 i).fits) c.get_words-2.ensures
 
 pub bounds-words-1 : goal.bounds-words-1

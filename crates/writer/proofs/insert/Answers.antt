@@ -63,7 +63,8 @@ known-named c =
     (ap (λ (l : List ℕ). length l) front)
 
 pub insert_both-requires : goal.insert_both-requires
-insert_both-requires c = let k = known-named (goal.at.insert_both-requires c).After-name_place-name_at in (omega (arith, k), k.inside, omega (arith, k))
+insert_both-requires c = let k = known-named (goal.at.insert_both-requires c).After-name_place-name_at in
+    (omega (arith, k), k.inside, omega (arith, k))
 
 -- ---- what is known at each later place
 
@@ -77,7 +78,8 @@ raise-requires-2 c = let k = known-named (goal.at.raise-requires-2 c).After-name
 
 pub returns : goal.returns
 returns c = let a = c.args in
-    put-moves _ _ _ (taken (goal.at.returns c).After-count-count) _ c.requires.1 _ _ _ _ (count-is (goal.at.returns c).After-count-count) refl
+    put-moves _ _ _ (taken (goal.at.returns c).After-count-count) _ c.requires.1 _ _ _ _ (count-is (goal.at.returns c).After-count-count)
+    refl
     (c.name_place-name_at.ensures
     ∙ ap
     (λ (l : List ℕ).

@@ -37,13 +37,29 @@ taken c = sym c.refusal-answer.ensures ∙ ap number_of c.in-Done.is
 -- the place is asked for only where there is a list
 
 pub insert-requires : goal.insert-requires
-insert-requires c = (taken (goal.at.insert-requires c).In-Done, (placed (goal.at.insert-requires c).After-place-place).place ∙ rw (put-passed _ _ _ (taken (goal.at.insert-requires c).In-Done)).is_list)
+insert-requires c = (
+  taken (goal.at.insert-requires c).In-Done,
+  (placed (goal.at.insert-requires c).After-place-place).place
+      ∙ rw (put-passed _ _ _ (taken (goal.at.insert-requires c).In-Done)).is_list,
+)
 
 pub returns-in-Done : goal.returns-in-Done
-returns-in-Done c = record { puts = record { answer = c.refusal-answer.ensures; leaves = c.insert.ensures ∙ rw (taken (goal.at.returns-in-Done c).In-Done) }; lends = lends (goal.at.returns-in-Done c).After-shared_slice_known-2-1 }
+returns-in-Done c =
+    record {
+      puts = record {
+        answer = c.refusal-answer.ensures;
+        leaves = c.insert.ensures ∙ rw (taken (goal.at.returns-in-Done c).In-Done);
+      };
+      lends = lends (goal.at.returns-in-Done c).After-shared_slice_known-2-1;
+    }
 
 pub returns-in_default : goal.returns-in_default
-returns-in_default c = let r = c.refusal-answer.result in record { puts = refused (sym c.refusal-answer.ensures) (lt→ltb 0 (number_of r) (not_done r c.in_default.not-Done)) refl; lends = lends (goal.at.returns-in_default c).After-shared_slice_known-2-1 }
+returns-in_default c = let r = c.refusal-answer.result in
+    record {
+      puts = refused (sym c.refusal-answer.ensures) (lt→ltb 0 (number_of r) (not_done r c.in_default.not-Done)) refl;
+      lends =
+          lends (goal.at.returns-in_default c).After-shared_slice_known-2-1;
+    }
 
 pub refusal-answer-requires : goal.refusal-answer-requires
 refusal-answer-requires c = placed c

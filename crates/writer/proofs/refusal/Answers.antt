@@ -21,7 +21,8 @@ use Rattle.lists.proofs.ByRules.{length-read_pairs}
 use Rattle.writer.specs.Writing.{front_list, put_tests}
 use Rattle.writer.proofs.Fronts.{CanPut, put-done}
 use Rattle.writer.proofs.refusal.Goals as goal
-use Rattle.writer.proofs.refusal.Goals.{After-count, After-digest_size-size, After-front-list, Else-digest-size, Else-not-allowed, Else-not-place, Else-place}
+use Rattle.writer.proofs.refusal.Goals.{After-count, After-digest_size-size, After-front-list, Else-digest-size, Else-not-allowed}
+use Rattle.writer.proofs.refusal.Goals.{Else-not-place, Else-place}
 
 -- ---- which test refuses
 
@@ -94,7 +95,8 @@ placed c = c.requires
 
 is-list : (c : Else-not-place) → accepted (front_list c.args.buffer.now) ≡ true
 is-list c =
-    let placed' : let p = c.args.place in Placed (front_list c.args.buffer.now) c.args.name.now p.accepted p.earlier p.listed = c.requires in
+    let placed' : let p = c.args.place in Placed (front_list c.args.buffer.now) c.args.name.now p.accepted p.earlier p.listed =
+    c.requires in
     sym (placed').judged ∙ not-false _ c.if-not-place.false
 
 named : (c : Else-not-allowed) → name_allowed (c.args.name.now) ≡ true
@@ -105,13 +107,15 @@ size-told c = c.digest_size-size.ensures ∙ ap (λ (l : List ℕ). digest_size_
 
 sized : (c : Else-digest-size) → length c.args.digest.now ≡ digest_size_in (front_list c.args.buffer.now)
 sized c =
-    let size-told' : c.digest_size-size.result ≡ digest_size_in (front_list c.args.buffer.now) = c.digest_size-size.ensures ∙ ap (λ (l : List ℕ). digest_size_in l) c.front-list.ensures in
+    let size-told' : c.digest_size-size.result ≡ digest_size_in (front_list c.args.buffer.now) = c.digest_size-size.ensures
+    ∙ ap (λ (l : List ℕ). digest_size_in l) c.front-list.ensures in
     c.if-digest-size.false ∙ size-told'
 
 new : (c : Else-place) →
     listed c.args.name.now (read_list (front_list c.args.buffer.now)).pairs ≡ false
 new c =
-    let placed' : let p = c.args.place in Placed (front_list c.args.buffer.now) c.args.name.now p.accepted p.earlier p.listed = c.requires in
+    let placed' : let p = c.args.place in Placed (front_list c.args.buffer.now) c.args.name.now p.accepted p.earlier p.listed =
+    c.requires in
     let is-list' : accepted (front_list c.args.buffer.now) ≡ true = sym (placed').judged ∙ not-false _ c.if-not-place.false in
     listed-told _ _ (placed') (is-list') ∙ c.if-place.false
 
@@ -126,29 +130,51 @@ front_length c = ap length c.front-list.ensures
 -- ---- the needs
 
 pub returns-then-not-place : goal.returns-then-not-place
-returns-then-not-place c = no-list _ _ _ (sym (placed (goal.at.returns-then-not-place c).After-front-list).judged ∙ not-true _ c.if-not-place.true)
+returns-then-not-place c = no-list _ _ _ (sym (placed (goal.at.returns-then-not-place c).After-front-list).judged
+    ∙ not-true _ c.if-not-place.true)
 
 pub returns-then-not-allowed : goal.returns-then-not-allowed
-returns-then-not-allowed c = forbidden _ _ _ (is-list (goal.at.returns-then-not-allowed c).Else-not-place) (sym c.allowed.ensures ∙ c.if-not-allowed.true)
+returns-then-not-allowed c = forbidden _ _ _ (is-list (goal.at.returns-then-not-allowed c).Else-not-place)
+    (sym c.allowed.ensures ∙ c.if-not-allowed.true)
 
 pub returns-then-digest-size : goal.returns-then-digest-size
-returns-then-digest-size c = other-size _ _ _ (is-list (goal.at.returns-then-digest-size c).Else-not-place) (named (goal.at.returns-then-digest-size c).Else-not-allowed) (λ q. c.if-digest-size.true (q ∙ sym (size-told (goal.at.returns-then-digest-size c).After-digest_size-size)))
+returns-then-digest-size c = other-size _ _ _ (is-list (goal.at.returns-then-digest-size c).Else-not-place)
+    (named (goal.at.returns-then-digest-size c).Else-not-allowed)
+    (λ q. c.if-digest-size.true (q ∙ sym (size-told (goal.at.returns-then-digest-size c).After-digest_size-size)))
 
 pub returns-then-place : goal.returns-then-place
-returns-then-place c = name-taken _ _ _ (is-list (goal.at.returns-then-place c).Else-not-place) (named (goal.at.returns-then-place c).Else-not-allowed) (sized (goal.at.returns-then-place c).Else-digest-size) (listed-told _ _ (placed (goal.at.returns-then-place c).After-front-list) (is-list (goal.at.returns-then-place c).Else-not-place) ∙ c.if-place.true)
+returns-then-place c = name-taken _ _ _ (is-list (goal.at.returns-then-place c).Else-not-place)
+    (named (goal.at.returns-then-place c).Else-not-allowed) (sized (goal.at.returns-then-place c).Else-digest-size)
+    (listed-told _ _ (placed (goal.at.returns-then-place c).After-front-list) (is-list (goal.at.returns-then-place c).Else-not-place)
+    ∙ c.if-place.true)
 
 pub returns-then-count-ge-MOST_ENTRIES : goal.returns-then-count-ge-MOST_ENTRIES
-returns-then-count-ge-MOST_ENTRIES c = full _ _ _ (is-list (goal.at.returns-then-count-ge-MOST_ENTRIES c).Else-not-place) (named (goal.at.returns-then-count-ge-MOST_ENTRIES c).Else-not-allowed) (sized (goal.at.returns-then-count-ge-MOST_ENTRIES c).Else-digest-size) (new (goal.at.returns-then-count-ge-MOST_ENTRIES c).Else-place) (omega (arith, counted (goal.at.returns-then-count-ge-MOST_ENTRIES c).After-count, c.if-count-ge-MOST_ENTRIES.true))
+returns-then-count-ge-MOST_ENTRIES c = full _ _ _ (is-list (goal.at.returns-then-count-ge-MOST_ENTRIES c).Else-not-place)
+    (named (goal.at.returns-then-count-ge-MOST_ENTRIES c).Else-not-allowed)
+    (sized (goal.at.returns-then-count-ge-MOST_ENTRIES c).Else-digest-size) (new (goal.at.returns-then-count-ge-MOST_ENTRIES c).Else-place)
+    (omega (arith, counted (goal.at.returns-then-count-ge-MOST_ENTRIES c).After-count, c.if-count-ge-MOST_ENTRIES.true))
 
 pub overflow_sub-buffer : goal.overflow_sub-buffer
 overflow_sub-buffer c = search (rules, front_length (goal.at.overflow_sub-buffer c).After-front-list, front-within c.args.buffer.now)
 
 pub overflow_add-digest-2 : goal.overflow_add-digest-2
-overflow_add-digest-2 c = record { fits = entry-fits c.args.buffer.now c.args.name.now c.args.digest.now (sized (goal.at.overflow_add-digest-2 c).Else-digest-size) (named (goal.at.overflow_add-digest-2 c).Else-not-allowed) }
+overflow_add-digest-2 c =
+    record {
+      fits = entry-fits c.args.buffer.now c.args.name.now c.args.digest.now
+          (sized (goal.at.overflow_add-digest-2 c).Else-digest-size) (named (goal.at.overflow_add-digest-2 c).Else-not-allowed);
+    }
 
 pub returns-then-buffer-list : goal.returns-then-buffer-list
-returns-then-buffer-list c = no_room _ _ _ (is-list (goal.at.returns-then-buffer-list c).Else-not-place) (named (goal.at.returns-then-buffer-list c).Else-not-allowed) (sized (goal.at.returns-then-buffer-list c).Else-digest-size) (new (goal.at.returns-then-buffer-list c).Else-place) (omega (arith, counted (goal.at.returns-then-buffer-list c).After-count, c.if-count-ge-MOST_ENTRIES.false))
-    (omega (arith, front_length (goal.at.returns-then-buffer-list c).After-front-list, front-within c.args.buffer.now, c.if-buffer-list.true))
+returns-then-buffer-list c = no_room _ _ _ (is-list (goal.at.returns-then-buffer-list c).Else-not-place)
+    (named (goal.at.returns-then-buffer-list c).Else-not-allowed) (sized (goal.at.returns-then-buffer-list c).Else-digest-size)
+    (new (goal.at.returns-then-buffer-list c).Else-place)
+    (omega (arith, counted (goal.at.returns-then-buffer-list c).After-count, c.if-count-ge-MOST_ENTRIES.false))
+    (omega (
+      arith,
+      front_length (goal.at.returns-then-buffer-list c).After-front-list,
+      front-within c.args.buffer.now,
+      c.if-buffer-list.true,
+    ))
 
 pub returns : goal.returns
 returns c = let t : CanPut c.args.buffer.now c.args.name.now c.args.digest.now = record {

@@ -35,9 +35,12 @@ is_known c = sym c.known.ensures ∙ c.if-not-known.false
 
 pub returns-then-buffer-lt-ENTRIES_AT : goal.returns-then-buffer-lt-ENTRIES_AT
 unfolding start_tests first
-returns-then-buffer-lt-ENTRIES_AT c = refused (rw (is_known (goal.at.returns-then-buffer-lt-ENTRIES_AT c).Else-not-known, lt-ltb _ entries_at c.if-buffer-lt-ENTRIES_AT.true)) tt refl
+returns-then-buffer-lt-ENTRIES_AT c =
+    refused (rw (is_known (goal.at.returns-then-buffer-lt-ENTRIES_AT c).Else-not-known, lt-ltb _ entries_at c.if-buffer-lt-ENTRIES_AT.true))
+    tt refl
 
 pub returns : goal.returns
 returns c = let a = c.args in
-    let can : CanStart a.edition a.buffer.now = record { edition-known = is_known (goal.at.returns c).Else-not-known; room = c.if-buffer-lt-ENTRIES_AT.false } in
+    let can : CanStart a.edition a.buffer.now =
+    record { edition-known = is_known (goal.at.returns c).Else-not-known; room = c.if-buffer-lt-ENTRIES_AT.false } in
     done (start-done _ _ can) (header-put _ _ _ can c.put_header.ensures)

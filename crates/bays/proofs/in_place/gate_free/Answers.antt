@@ -17,7 +17,8 @@ gated : (c : In-Done) → first (gate_tests c.args.table.now c.args.bay) ≡ 0
 gated c = sym c.gate-passed.ensures ∙ ap number_of c.in-Done.is
 
 pub returns-then-empty_at : goal.returns-then-empty_at
-returns-then-empty_at c = gate-opens _ _ _ (gated (goal.at.returns-then-empty_at c).In-Done) (sym (first-free _ (sym c.empty_at.ensures ∙ c.if-empty_at.true)))
+returns-then-empty_at c = gate-opens _ _ _ (gated (goal.at.returns-then-empty_at c).In-Done)
+    (sym (first-free _ (sym c.empty_at.ensures ∙ c.if-empty_at.true)))
 
 pub returns-then-is_sound : goal.returns-then-is_sound
 returns-then-is_sound c = gate-opens _ _ _ (gated (goal.at.returns-then-is_sound c).In-Done)

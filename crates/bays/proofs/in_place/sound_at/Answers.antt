@@ -38,7 +38,9 @@ unfolding first
 unsound-first t i g s = sym (gate-opens t i (not_sound t i ∷ []) g (rw s))
 
 pub returns-then-empty_at : goal.returns-then-empty_at
-returns-then-empty_at c = done (sound-first _ _ (gated (goal.at.returns-then-empty_at c).In-Done) (sound_bay-empty _ (sym c.empty_at.ensures ∙ c.if-empty_at.true))) c.half_at-half.ensures
+returns-then-empty_at c =
+    done (sound-first _ _ (gated (goal.at.returns-then-empty_at c).In-Done)
+    (sound_bay-empty _ (sym c.empty_at.ensures ∙ c.if-empty_at.true))) c.half_at-half.ensures
 
 pub returns-then-not-is_sound : goal.returns-then-not-is_sound
 returns-then-not-is_sound c = refused-with _ Answer.NotSound (omega arith)

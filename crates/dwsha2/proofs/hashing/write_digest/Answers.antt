@@ -19,7 +19,8 @@ slice_bounds-bytes-end c = let e = c.args.edition in
     omega (arith, c.put_words.auto.d, digest-within e, bytes-within e, c.digest_bytes-n.ensures)
 
 pub slice_bounds-put_front-end : goal.slice_bounds-put_front-end
-slice_bounds-put_front-end c = sym (length-take-le _ _ (slice_bounds-bytes-end (goal.at.slice_bounds-put_front-end c).After-put_front-arg-1))
+slice_bounds-put_front-end c =
+    sym (length-take-le _ _ (slice_bounds-bytes-end (goal.at.slice_bounds-put_front-end c).After-put_front-arg-1))
 
 pub returns : goal.returns
 returns c = let e = c.args.edition in

@@ -1,4 +1,5 @@
--- `dwsha2::limit::too_long` meets its contract: the length so far passes the limit, or what the limit leaves is too little. Assumes nothing.
+-- `dwsha2::limit::too_long` meets its contract: the length so far passes the limit, or what the limit leaves is too little. Assumes
+-- nothing.
 use mathlib.Core.Bool.{Bool, true, false}
 use mathlib.Core.Path.{◌≡◌, refl, sym}
 use Prim.Native.Nat.{ℕ, ◌-◌, ◌≤◌}

@@ -19,7 +19,8 @@ is-sound c = sym c.is_sound.ensures ∙ c.if-not-is_sound.false
 
 pub returns-then-too_long : goal.returns-then-too_long
 unfolding add_tests first
-returns-then-too_long c = refused (rw (is-sound (goal.at.returns-then-too_long c).Else-not-is_sound, sym c.too_long.ensures ∙ c.if-too_long.true)) tt refl
+returns-then-too_long c =
+    refused (rw (is-sound (goal.at.returns-then-too_long c).Else-not-is_sound, sym c.too_long.ensures ∙ c.if-too_long.true)) tt refl
 
 -- the piece keeps the limit
 

@@ -56,27 +56,36 @@ is-joined c =
 
 pub returns-then-piece-lead : goal.returns-then-piece-lead
 unfolding joined
-returns-then-piece-lead c = fills-short c.args.half (wide (goal.at.returns-then-piece-lead c).After-tail_length-from) (is-sound (goal.at.returns-then-piece-lead c).After-tail_length-from) c.args.piece.now c.block_bytes-size.ensures c.tail_length-from.ensures (is-joined (goal.at.returns-then-piece-lead c).After-tail-3-1)
+returns-then-piece-lead c = fills-short c.args.half (wide (goal.at.returns-then-piece-lead c).After-tail_length-from)
+    (is-sound (goal.at.returns-then-piece-lead c).After-tail_length-from) c.args.piece.now c.block_bytes-size.ensures
+    c.tail_length-from.ensures (is-joined (goal.at.returns-then-piece-lead c).After-tail-3-1)
     c.if-piece-lead.true
 
 end-within : (c : Else-piece-lead) → c.tail_length-from.result
     + lack c.block_bytes-size.result
     c.tail_length-from.result ≤ tail_room
 end-within c =
-    let from-lt' : c.tail_length-from.result < c.block_bytes-size.result = omega (arith, c.block_bytes-size.ensures, c.tail_length-from.ensures, tail-lt c.args.half) in
+    let from-lt' : c.tail_length-from.result < c.block_bytes-size.result =
+    omega (arith, c.block_bytes-size.ensures, c.tail_length-from.ensures, tail-lt c.args.half) in
     let b = c.block_bytes-size in
     omega (arith, (lack-whole b.result c.tail_length-from.result (from-lt')).2, b.ensures, block_within c.args.half.edition)
 
 pub slice_bounds-tail-end-2 : goal.slice_bounds-tail-end-2
 unfolding joined
-slice_bounds-tail-end-2 c = omega (arith, end-within c, ap length (is-joined (goal.at.slice_bounds-tail-end-2 c).After-tail-3-1), length-padded (waiting c.args.half c.args.piece.now))
+slice_bounds-tail-end-2 c = omega (
+  arith,
+  end-within c,
+  ap length (is-joined (goal.at.slice_bounds-tail-end-2 c).After-tail-3-1),
+  length-padded (waiting c.args.half c.args.piece.now),
+)
 
 pub slice_bounds-absorb-end : goal.slice_bounds-absorb-end
 slice_bounds-absorb-end c = sym (length-take-le _ _ (slice_bounds-tail-end-2 (goal.at.slice_bounds-absorb-end c).Else-piece-lead))
 
 pub returns : goal.returns
 unfolding joined
-returns c = fills-long c.args.half (wide (goal.at.returns c).After-tail_length-from) (is-sound (goal.at.returns c).After-tail_length-from) c.args.piece.now c.block_bytes-size.ensures c.tail_length-from.ensures (is-joined (goal.at.returns c).After-tail-3-1)
+returns c = fills-long c.args.half (wide (goal.at.returns c).After-tail_length-from) (is-sound (goal.at.returns c).After-tail_length-from)
+    c.args.piece.now c.block_bytes-size.ensures c.tail_length-from.ensures (is-joined (goal.at.returns c).After-tail-3-1)
     c.if-piece-lead.false
     c.absorb-filled.ensures
     c.absorb-words.ensures

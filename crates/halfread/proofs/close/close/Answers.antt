@@ -29,7 +29,12 @@ is-sound c = sym c.is_sound.ensures ∙ c.if-not-is_sound.false
 
 pub returns-then-not-closing_fits : goal.returns-then-not-closing_fits
 unfolding close_tests first
-returns-then-not-closing_fits c = refused (rw (is-sound (goal.at.returns-then-not-closing_fits c).Else-not-is_sound, sym c.closing_fits.ensures ∙ c.if-not-closing_fits.true)) tt refl
+returns-then-not-closing_fits c =
+    refused (rw (
+      is-sound (goal.at.returns-then-not-closing_fits c).Else-not-is_sound,
+      sym c.closing_fits.ensures
+          ∙ c.if-not-closing_fits.true,
+    )) tt refl
 
 fitting : (c : Else-not-closing_fits) →
     closing_fits c.args.closing c.args.bits ≡ true
@@ -38,7 +43,12 @@ fitting c = sym c.closing_fits.ensures ∙ c.if-not-closing_fits.false
 pub returns-then-out-digest_bytes : goal.returns-then-out-digest_bytes
 unfolding close_tests first
 returns-then-out-digest_bytes c = refused
-    (rw (is-sound (goal.at.returns-then-out-digest_bytes c).Else-not-is_sound, fitting (goal.at.returns-then-out-digest_bytes c).Else-not-closing_fits, ← c.digest_bytes.ensures, lt-ltb _ _ c.if-out-digest_bytes.true))
+    (rw (
+      is-sound (goal.at.returns-then-out-digest_bytes c).Else-not-is_sound,
+      fitting (goal.at.returns-then-out-digest_bytes c).Else-not-closing_fits,
+      ← c.digest_bytes.ensures,
+      lt-ltb _ _ c.if-out-digest_bytes.true,
+    ))
     tt refl
 
 pub slice_bounds-tail-end : goal.slice_bounds-tail-end
@@ -60,7 +70,12 @@ pub returns : goal.returns
 unfolding close_tests first
 returns c = let a = c.args in
     done
-    (rw (is-sound (goal.at.returns c).Else-not-is_sound, fitting (goal.at.returns c).Else-not-closing_fits, ← c.digest_bytes.ensures, le-ltb _ _ c.if-out-digest_bytes.false))
+    (rw (
+      is-sound (goal.at.returns c).Else-not-is_sound,
+      fitting (goal.at.returns c).Else-not-closing_fits,
+      ← c.digest_bytes.ensures,
+      le-ltb _ _ c.if-out-digest_bytes.false,
+    ))
     (c.write_digest.ensures
     ∙ ap (λ (l : List ℕ). at_front l a.out.now)
     (is-closed a.half a.closing a.bits c.tail_length-end.ensures c.finish-last.ensures))

@@ -35,8 +35,11 @@ returns-then-words-i-ge4294967296 c = let l = c.loop-i in
 pub loop-i-preserved : goal.loop-i-preserved
 loop-i-preserved c = let l = c.loop-i in
     let words = c.args.words in
-    let long : length words ≡ 8 = search rules in
-    (omega arith, rw add-one (l.invariant.1 ∙ every-turn (λ x. ltb x (2 ^ 32)) words l.i (omega arith) (lt-ltb _ _ c.if-words-i-ge4294967296.false)))
+    let long : length words ≡ 8 = search rules in (
+      omega arith,
+      rw add-one
+          (l.invariant.1 ∙ every-turn (λ x. ltb x (2 ^ 32)) words l.i (omega arith) (lt-ltb _ _ c.if-words-i-ge4294967296.false)),
+    )
 
 pub returns : goal.returns
 returns c = let l = c.loop-i in

@@ -51,10 +51,12 @@ kept c =
     }
 
 pub returns-then-size-count : goal.returns-then-size-count
-returns-then-size-count c = past-rule _ (kept (goal.at.returns-then-size-count c).Else-not-bytes_zero) (omega (arith, c.block_bytes-size.ensures))
+returns-then-size-count c = past-rule _ (kept (goal.at.returns-then-size-count c).Else-not-bytes_zero)
+    (omega (arith, c.block_bytes-size.ensures))
 
 pub returns : goal.returns
-returns c = begun-rule _ (kept (goal.at.returns c).Else-not-bytes_zero) (omega (arith, c.block_bytes-size.ensures)) c.starting_words-start.ensures c.same_words.ensures
+returns c = begun-rule _ (kept (goal.at.returns c).Else-not-bytes_zero) (omega (arith, c.block_bytes-size.ensures))
+    c.starting_words-start.ensures c.same_words.ensures
 
 pub slice_bounds-bytes_zero-count : goal.slice_bounds-bytes_zero-count
 slice_bounds-bytes_zero-count c = held_fits c

@@ -22,7 +22,12 @@ lends c = (
 
 pub returns-then-not-keeps_more : goal.returns-then-not-keeps_more
 unfolding add_tests first
-returns-then-not-keeps_more c = let broken = more-broken c.args.keyed (sym c.keeps_more.ensures ∙ c.if-not-keeps_more.true) in record { judged = refused (rw broken) tt refl; shaped = lends (goal.at.returns-then-not-keeps_more c).After-keeps_more }
+returns-then-not-keeps_more c = let broken = more-broken c.args.keyed (sym c.keeps_more.ensures ∙ c.if-not-keeps_more.true) in
+    record { judged = refused (rw broken) tt refl; shaped = lends (goal.at.returns-then-not-keeps_more c).After-keeps_more }
 
 pub returns : goal.returns
-returns c = record { judged = add-judged _ _ (sym c.keeps_more.ensures ∙ c.if-not-keeps_more.false) c.add-next.ensures; shaped = lends (goal.at.returns c).After-keeps_more }
+returns c = record {
+  judged = add-judged _ _ (sym c.keeps_more.ensures ∙ c.if-not-keeps_more.false) c.add-next.ensures;
+  shaped =
+      lends (goal.at.returns c).After-keeps_more;
+}

@@ -50,7 +50,8 @@ compared c =
 
 pub returns-then-not-same_bytes : goal.returns-then-not-same_bytes
 returns-then-not-same_bytes c = let pass = lengths-passed _ _ _ (gated (goal.at.returns-then-not-same_bytes c).In-Done) in
-    sym (check-first _ _ _ _ pass false (sym (compared (goal.at.returns-then-not-same_bytes c).After-same_bytes) ∙ c.if-not-same_bytes.true))
+    sym (check-first _ _ _ _ pass false (sym (compared (goal.at.returns-then-not-same_bytes c).After-same_bytes)
+    ∙ c.if-not-same_bytes.true))
 
 pub returns : goal.returns
 returns c = let pass = lengths-passed _ _ _ (gated (goal.at.returns c).In-Done) in

@@ -31,7 +31,8 @@ gated c = sym c.gate-passed.ensures ∙ ap number_of c.in-Done.is
 
 pub returns-then-out-n : goal.returns-then-out-n
 unfolding tag_at_once_tests first
-returns-then-out-n c = went_on (length_tests _ _ _) _ tt (gated (goal.at.returns-then-out-n c).In-Done) (refused (rw (← c.digest_bytes-n.ensures, lt-ltb _ _ c.if-out-n.true)) tt refl)
+returns-then-out-n c = went_on (length_tests _ _ _) _ tt (gated (goal.at.returns-then-out-n c).In-Done)
+    (refused (rw (← c.digest_bytes-n.ensures, lt-ltb _ _ c.if-out-n.true)) tt refl)
 
 pub slice_bounds-tag-end : goal.slice_bounds-tag-end
 slice_bounds-tag-end c = let long : length c.made-tag.result ≡ tag_room = search rules in

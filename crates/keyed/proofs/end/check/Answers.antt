@@ -43,7 +43,8 @@ compared : (c : After-same_bytes) →
     ≡ same c.args.tag.now
     (tag_of c.args.keyed)
 compared c =
-    let shape' : Shaped c.args.keyed = owned _ (search rules) (search rules) (search rules) (search rules) (λ i. search rules) (λ i. search rules) (search rules)
+    let shape' : Shaped c.args.keyed = owned _ (search rules) (search rules) (search rules) (search rules) (λ i. search rules)
+    (λ i. search rules) (search rules)
     (λ i. search rules) in
     let a = c.args in
     let long = length-tag_of a.keyed (shape') in
@@ -52,8 +53,16 @@ compared c =
 
 pub returns-then-not-same_bytes : goal.returns-then-not-same_bytes
 unfolding check_tests first
-returns-then-not-same_bytes c = rw (is-sound (goal.at.returns-then-not-same_bytes c).Else-not-is_sound, sym (compared (goal.at.returns-then-not-same_bytes c).After-same_bytes) ∙ c.if-not-same_bytes.true)
+returns-then-not-same_bytes c =
+    rw (
+      is-sound (goal.at.returns-then-not-same_bytes c).Else-not-is_sound,
+      sym (compared (goal.at.returns-then-not-same_bytes c).After-same_bytes) ∙ c.if-not-same_bytes.true,
+    )
 
 pub returns : goal.returns
 unfolding check_tests first
-returns c = rw (is-sound (goal.at.returns c).Else-not-is_sound, sym (compared (goal.at.returns c).After-same_bytes) ∙ c.if-not-same_bytes.false)
+returns c = rw (
+  is-sound (goal.at.returns c).Else-not-is_sound,
+  sym (compared (goal.at.returns c).After-same_bytes)
+      ∙ c.if-not-same_bytes.false,
+)

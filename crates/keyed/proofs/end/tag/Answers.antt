@@ -28,14 +28,24 @@ shape c =
 
 pub returns-then-not-is_sound : goal.returns-then-not-is_sound
 unfolding tag_tests first
-returns-then-not-is_sound c = record { judged = refused (rw (sym c.is_sound.ensures ∙ c.if-not-is_sound.true)) tt refl; shaped = shape (goal.at.returns-then-not-is_sound c).After-is_sound }
+returns-then-not-is_sound c = record {
+  judged = refused (rw (sym c.is_sound.ensures ∙ c.if-not-is_sound.true)) tt refl;
+  shaped =
+      shape (goal.at.returns-then-not-is_sound c).After-is_sound;
+}
 
 is-sound : (c : Else-not-is_sound) → sound c.args.keyed ≡ true
 is-sound c = sym c.is_sound.ensures ∙ c.if-not-is_sound.false
 
 pub returns-then-out-n : goal.returns-then-out-n
 unfolding tag_tests first
-returns-then-out-n c = record { judged = refused (rw (is-sound (goal.at.returns-then-out-n c).Else-not-is_sound, ← c.digest_bytes-n.ensures, lt-ltb _ _ c.if-out-n.true)) tt refl; shaped = shape (goal.at.returns-then-out-n c).After-is_sound }
+returns-then-out-n c =
+    record {
+      judged =
+          refused
+          (rw (is-sound (goal.at.returns-then-out-n c).Else-not-is_sound, ← c.digest_bytes-n.ensures, lt-ltb _ _ c.if-out-n.true)) tt refl;
+      shaped = shape (goal.at.returns-then-out-n c).After-is_sound;
+    }
 
 pub slice_bounds-tag-end : goal.slice_bounds-tag-end
 slice_bounds-tag-end c = let long : length c.ended-tag.result ≡ tag_room = search rules in

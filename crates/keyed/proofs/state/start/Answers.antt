@@ -14,7 +14,11 @@ lends c i = (c.shared_slice_known-1.given i).fits
 
 pub returns-then-not-known : goal.returns-then-not-known
 unfolding start_tests first
-returns-then-not-known c = record { judged = refused (rw (sym c.known.ensures ∙ c.if-not-known.true)) tt c.blank.ensures; bytes = lends (goal.at.returns-then-not-known c).After-known }
+returns-then-not-known c = record {
+  judged = refused (rw (sym c.known.ensures ∙ c.if-not-known.true)) tt c.blank.ensures;
+  bytes =
+      lends (goal.at.returns-then-not-known c).After-known;
+}
 
 pub returns-then-too_long : goal.returns-then-too_long
 unfolding start_tests first

@@ -13,7 +13,11 @@ loop-left-preserved c = let l = c.loop-left in
     )
 
 pub returns : goal.returns
-returns c = let l = c.loop-left in record { result_value = c.part.ensures.result_value ∙ name-here _ _ l.at l.left _ (omega arith) c.before_zero.ensures.0 l.invariant.1.0; lies_at = lies-also (place_here _ _ l.at l.left (omega arith) l.invariant.0 l.invariant.1.1) c.part.ensures.lies_at }
+returns c = let l = c.loop-left in
+    record {
+      result_value = c.part.ensures.result_value ∙ name-here _ _ l.at l.left _ (omega arith) c.before_zero.ensures.0 l.invariant.1.0;
+      lies_at = lies-also (place_here _ _ l.at l.left (omega arith) l.invariant.0 l.invariant.1.1) c.part.ensures.lies_at;
+    }
 
 pub loop-left-init : goal.loop-left-init
 loop-left-init c = (omega arith, (refl, refl))

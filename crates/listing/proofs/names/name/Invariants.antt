@@ -6,7 +6,8 @@ use Rattle.listing.specs.Names.{name_in, names_from}
 use Rattle.listing.proofs.names.name.Given as goal
 
 abbrev pub invariant-loop-left : goal.invariant-loop-left
-invariant-loop-left l = (l.at ≤ length l.input) × ((name_in l.i l.input ≡ name_in l.left (drop l.at l.input)) × (names_from l.i l.input ≡ names_from l.left (drop l.at l.input)))
+invariant-loop-left l = (l.at ≤ length l.input) ×
+    ((name_in l.i l.input ≡ name_in l.left (drop l.at l.input)) × (names_from l.i l.input ≡ names_from l.left (drop l.at l.input)))
 
 abbrev pub decreases-loop-left : goal.decreases-loop-left
 decreases-loop-left l = l.left

@@ -44,7 +44,8 @@ returns-then-not-known c = sym (fails-at _ 1 (ap known (sym c.edition.ensures) �
 
 pub returns-then-entries-gt-MOST_ENTRIES : goal.returns-then-entries-gt-MOST_ENTRIES
 unfolding header_right
-returns-then-entries-gt-MOST_ENTRIES c = sym (fails-at _ 2 (ap (λ (m : ℕ). leb m most_entries) (sym c.count-entries.ensures) ∙ lt-leb _ _ c.if-entries-gt-MOST_ENTRIES.true))
+returns-then-entries-gt-MOST_ENTRIES c =
+    sym (fails-at _ 2 (ap (λ (m : ℕ). leb m most_entries) (sym c.count-entries.ensures) ∙ lt-leb _ _ c.if-entries-gt-MOST_ENTRIES.true))
 
 pub returns : goal.returns
 returns c = whole _ _ _ _ _ c.edition.ensures c.count-entries.ensures c.digest_size.ensures

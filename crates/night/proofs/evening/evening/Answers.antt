@@ -11,5 +11,6 @@ shape_of-table c = c.add-3.auto.table ∙ c.add-2.auto.table ∙ c.add.auto.tabl
 pub returns : goal.returns
 returns c room fit = let g = c.args in
     saved-half _ g.cut g.a.now g.b.now g.c.now _ _ _ _ c.part-2.ensures.result_value c.part.ensures.result_value
-    c.part-3.ensures.result_value fit (c.laid.ensures room fit.is_known) (c.«open».ensures.outcome, c.«open».ensures.lends) (c.add.ensures.outcome, c.add.ensures.lends) (c.add-2.ensures.outcome, c.add-2.ensures.lends)
+    c.part-3.ensures.result_value fit (c.laid.ensures room fit.is_known) (c.«open».ensures.outcome, c.«open».ensures.lends)
+    (c.add.ensures.outcome, c.add.ensures.lends) (c.add-2.ensures.outcome, c.add-2.ensures.lends)
     (c.add-3.ensures.outcome, c.add-3.ensures.lends) (c.save.ensures.outcome, c.save.ensures.lends)

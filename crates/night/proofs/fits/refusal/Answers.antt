@@ -18,36 +18,117 @@ returns-then-anew-lt-THREE_BAYS c = rw (has_room _ c.if-table-lt-THREE_BAYS.fals
 
 pub returns-then-not-known : goal.returns-then-not-known
 unfolding night_tests first
-returns-then-not-known c = rw (has_room _ c.if-table-lt-THREE_BAYS.false, has_room _ c.if-anew-lt-THREE_BAYS.false, ap not (sym c.known.ensures ∙ c.if-not-known.true))
+returns-then-not-known c = rw (
+  has_room _ c.if-table-lt-THREE_BAYS.false,
+  has_room _ c.if-anew-lt-THREE_BAYS.false,
+  ap not (sym c.known.ensures ∙ c.if-not-known.true),
+)
 
 pub returns-then-too_long : goal.returns-then-too_long
 unfolding night_tests first
-returns-then-too_long c = rw (has_room _ c.if-table-lt-THREE_BAYS.false, has_room _ c.if-anew-lt-THREE_BAYS.false, ap not (sym c.known.ensures ∙ c.if-not-known.false), sym c.too_long.ensures ∙ c.if-too_long.true)
+returns-then-too_long c = rw (
+  has_room _ c.if-table-lt-THREE_BAYS.false,
+  has_room _ c.if-anew-lt-THREE_BAYS.false,
+  ap not (sym c.known.ensures ∙ c.if-not-known.false),
+  sym c.too_long.ensures ∙ c.if-too_long.true,
+)
 
 pub returns-then-too_long-2 : goal.returns-then-too_long-2
 unfolding night_tests first
-returns-then-too_long-2 c = rw (has_room _ c.if-table-lt-THREE_BAYS.false, has_room _ c.if-anew-lt-THREE_BAYS.false, ap not (sym c.known.ensures ∙ c.if-not-known.false), sym c.too_long.ensures ∙ c.if-too_long.false, sym c.too_long-2.ensures ∙ c.if-too_long-2.true)
+returns-then-too_long-2 c = rw (
+  has_room _ c.if-table-lt-THREE_BAYS.false,
+  has_room _ c.if-anew-lt-THREE_BAYS.false,
+  ap not (sym c.known.ensures ∙ c.if-not-known.false),
+  sym c.too_long.ensures ∙ c.if-too_long.false,
+  sym c.too_long-2.ensures
+      ∙ c.if-too_long-2.true,
+)
 
 pub returns-then-too_long-3 : goal.returns-then-too_long-3
 unfolding night_tests first
-returns-then-too_long-3 c = rw (has_room _ c.if-table-lt-THREE_BAYS.false, has_room _ c.if-anew-lt-THREE_BAYS.false, ap not (sym c.known.ensures ∙ c.if-not-known.false), sym c.too_long.ensures ∙ c.if-too_long.false, sym c.too_long-2.ensures ∙ c.if-too_long-2.false, sym c.too_long-3.ensures ∙ c.if-too_long-3.true)
+returns-then-too_long-3 c = rw (
+  has_room _ c.if-table-lt-THREE_BAYS.false,
+  has_room _ c.if-anew-lt-THREE_BAYS.false,
+  ap not (sym c.known.ensures ∙ c.if-not-known.false),
+  sym c.too_long.ensures ∙ c.if-too_long.false,
+  sym c.too_long-2.ensures
+      ∙ c.if-too_long-2.false,
+  sym c.too_long-3.ensures ∙ c.if-too_long-3.true,
+)
 
 pub returns-then-saved-size : goal.returns-then-saved-size
 unfolding night_tests first
-returns-then-saved-size c = rw (has_room _ c.if-table-lt-THREE_BAYS.false, has_room _ c.if-anew-lt-THREE_BAYS.false, ap not (sym c.known.ensures ∙ c.if-not-known.false), sym c.too_long.ensures ∙ c.if-too_long.false, sym c.too_long-2.ensures ∙ c.if-too_long-2.false, sym c.too_long-3.ensures ∙ c.if-too_long-3.false, lt-ltb _ _ c.if-saved-size.true)
+returns-then-saved-size c = rw (
+  has_room _ c.if-table-lt-THREE_BAYS.false,
+  has_room _ c.if-anew-lt-THREE_BAYS.false,
+  ap not (sym c.known.ensures ∙ c.if-not-known.false),
+  sym c.too_long.ensures ∙ c.if-too_long.false,
+  sym c.too_long-2.ensures
+      ∙ c.if-too_long-2.false,
+  sym c.too_long-3.ensures ∙ c.if-too_long-3.false,
+  lt-ltb _ _ c.if-saved-size.true,
+)
 
 pub returns-then-x-room : goal.returns-then-x-room
 unfolding night_tests first
-returns-then-x-room c = rw (has_room _ c.if-table-lt-THREE_BAYS.false, has_room _ c.if-anew-lt-THREE_BAYS.false, ap not (sym c.known.ensures ∙ c.if-not-known.false), sym c.too_long.ensures ∙ c.if-too_long.false, sym c.too_long-2.ensures ∙ c.if-too_long-2.false, sym c.too_long-3.ensures ∙ c.if-too_long-3.false, le-ltb _ _ c.if-saved-size.false, ap (ltb c.args.x) (sym c.digest_bytes-room.ensures) ∙ lt-ltb _ _ c.if-x-room.true)
+returns-then-x-room c = rw (
+  has_room _ c.if-table-lt-THREE_BAYS.false,
+  has_room _ c.if-anew-lt-THREE_BAYS.false,
+  ap not (sym c.known.ensures ∙ c.if-not-known.false),
+  sym c.too_long.ensures ∙ c.if-too_long.false,
+  sym c.too_long-2.ensures
+      ∙ c.if-too_long-2.false,
+  sym c.too_long-3.ensures ∙ c.if-too_long-3.false,
+  le-ltb _ _ c.if-saved-size.false,
+  ap (ltb c.args.x) (sym c.digest_bytes-room.ensures) ∙ lt-ltb _ _ c.if-x-room.true,
+)
 
 pub returns-then-y-room : goal.returns-then-y-room
 unfolding night_tests first
-returns-then-y-room c = rw (has_room _ c.if-table-lt-THREE_BAYS.false, has_room _ c.if-anew-lt-THREE_BAYS.false, ap not (sym c.known.ensures ∙ c.if-not-known.false), sym c.too_long.ensures ∙ c.if-too_long.false, sym c.too_long-2.ensures ∙ c.if-too_long-2.false, sym c.too_long-3.ensures ∙ c.if-too_long-3.false, le-ltb _ _ c.if-saved-size.false, ap (ltb c.args.x) (sym c.digest_bytes-room.ensures) ∙ le-ltb _ _ c.if-x-room.false, ap (ltb c.args.y) (sym c.digest_bytes-room.ensures) ∙ lt-ltb _ _ c.if-y-room.true)
+returns-then-y-room c = rw (
+  has_room _ c.if-table-lt-THREE_BAYS.false,
+  has_room _ c.if-anew-lt-THREE_BAYS.false,
+  ap not (sym c.known.ensures ∙ c.if-not-known.false),
+  sym c.too_long.ensures ∙ c.if-too_long.false,
+  sym c.too_long-2.ensures
+      ∙ c.if-too_long-2.false,
+  sym c.too_long-3.ensures ∙ c.if-too_long-3.false,
+  le-ltb _ _ c.if-saved-size.false,
+  ap (ltb c.args.x) (sym c.digest_bytes-room.ensures) ∙ le-ltb _ _ c.if-x-room.false,
+  ap (ltb c.args.y) (sym c.digest_bytes-room.ensures)
+      ∙ lt-ltb _ _ c.if-y-room.true,
+)
 
 pub returns-then-z-room : goal.returns-then-z-room
 unfolding night_tests first
-returns-then-z-room c = rw (has_room _ c.if-table-lt-THREE_BAYS.false, has_room _ c.if-anew-lt-THREE_BAYS.false, ap not (sym c.known.ensures ∙ c.if-not-known.false), sym c.too_long.ensures ∙ c.if-too_long.false, sym c.too_long-2.ensures ∙ c.if-too_long-2.false, sym c.too_long-3.ensures ∙ c.if-too_long-3.false, le-ltb _ _ c.if-saved-size.false, ap (ltb c.args.x) (sym c.digest_bytes-room.ensures) ∙ le-ltb _ _ c.if-x-room.false, ap (ltb c.args.y) (sym c.digest_bytes-room.ensures) ∙ le-ltb _ _ c.if-y-room.false, ap (ltb c.args.z) (sym c.digest_bytes-room.ensures) ∙ lt-ltb _ _ c.if-z-room.true)
+returns-then-z-room c = rw (
+  has_room _ c.if-table-lt-THREE_BAYS.false,
+  has_room _ c.if-anew-lt-THREE_BAYS.false,
+  ap not (sym c.known.ensures ∙ c.if-not-known.false),
+  sym c.too_long.ensures ∙ c.if-too_long.false,
+  sym c.too_long-2.ensures
+      ∙ c.if-too_long-2.false,
+  sym c.too_long-3.ensures ∙ c.if-too_long-3.false,
+  le-ltb _ _ c.if-saved-size.false,
+  ap (ltb c.args.x) (sym c.digest_bytes-room.ensures) ∙ le-ltb _ _ c.if-x-room.false,
+  ap (ltb c.args.y) (sym c.digest_bytes-room.ensures)
+      ∙ le-ltb _ _ c.if-y-room.false,
+  ap (ltb c.args.z) (sym c.digest_bytes-room.ensures) ∙ lt-ltb _ _ c.if-z-room.true,
+)
 
 pub returns : goal.returns
 unfolding night_tests first
-returns c = rw (has_room _ c.if-table-lt-THREE_BAYS.false, has_room _ c.if-anew-lt-THREE_BAYS.false, ap not (sym c.known.ensures ∙ c.if-not-known.false), sym c.too_long.ensures ∙ c.if-too_long.false, sym c.too_long-2.ensures ∙ c.if-too_long-2.false, sym c.too_long-3.ensures ∙ c.if-too_long-3.false, le-ltb _ _ c.if-saved-size.false, ap (ltb c.args.x) (sym c.digest_bytes-room.ensures) ∙ le-ltb _ _ c.if-x-room.false, ap (ltb c.args.y) (sym c.digest_bytes-room.ensures) ∙ le-ltb _ _ c.if-y-room.false, ap (ltb c.args.z) (sym c.digest_bytes-room.ensures) ∙ le-ltb _ _ c.if-z-room.false)
+returns c = rw (
+  has_room _ c.if-table-lt-THREE_BAYS.false,
+  has_room _ c.if-anew-lt-THREE_BAYS.false,
+  ap not (sym c.known.ensures ∙ c.if-not-known.false),
+  sym c.too_long.ensures ∙ c.if-too_long.false,
+  sym c.too_long-2.ensures
+      ∙ c.if-too_long-2.false,
+  sym c.too_long-3.ensures ∙ c.if-too_long-3.false,
+  le-ltb _ _ c.if-saved-size.false,
+  ap (ltb c.args.x) (sym c.digest_bytes-room.ensures) ∙ le-ltb _ _ c.if-x-room.false,
+  ap (ltb c.args.y) (sym c.digest_bytes-room.ensures)
+      ∙ le-ltb _ _ c.if-y-room.false,
+  ap (ltb c.args.z) (sym c.digest_bytes-room.ensures) ∙ le-ltb _ _ c.if-z-room.false,
+)

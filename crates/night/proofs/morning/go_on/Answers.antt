@@ -12,4 +12,6 @@ pub returns : goal.returns
 returns c e fit held = let g = c.args in
     gone-on e g.cut g.a.now g.b.now g.c.now _ _ _ _ _ c.part-2.ensures.result_value c.part.ensures.result_value
     c.part-4.ensures.result_value c.part-3.ensures.result_value c.part-5.ensures.result_value fit held
-    (c.add.ensures.outcome, c.add.ensures.lends) (c.add-2.ensures.outcome, c.add-2.ensures.lends) (c.add-3.ensures.outcome, c.add-3.ensures.lends) (c.add-4.ensures.outcome, c.add-4.ensures.lends) (c.add-5.ensures.outcome, c.add-5.ensures.lends)
+    (c.add.ensures.outcome, c.add.ensures.lends) (c.add-2.ensures.outcome, c.add-2.ensures.lends)
+    (c.add-3.ensures.outcome, c.add-3.ensures.lends) (c.add-4.ensures.outcome, c.add-4.ensures.lends)
+    (c.add-5.ensures.outcome, c.add-5.ensures.lends)

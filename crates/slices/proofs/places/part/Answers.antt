@@ -29,10 +29,19 @@ module _ (bs : List ℕ) (at n start size : ℕ) (s : start ≡ min at (length b
     some = simp (length-take, length-drop) (omega arith)
 
 pub returns-then-start-end : goal.returns-then-start-end
-returns-then-start-end c = record { result_value = none _ _ _ _ _ c.least-start.ensures c.least.ensures c.if-start-end.true; lies_at = lies-first refl refl refl }
+returns-then-start-end c = record {
+  result_value = none _ _ _ _ _ c.least-start.ensures c.least.ensures c.if-start-end.true;
+  lies_at =
+      lies-first refl refl refl;
+}
 
 pub returns : goal.returns
 returns c = let a = c.args in
     let start = c.least-start.ensures in
     let size = c.least.ensures in
-    let z = c.if-start-end.false in record { result_value = cut _ _ _ _ _ start size; lies_at = lies-there refl _ refl (there a.s.now a.at a.n _ _ start size z) (some a.s.now a.at a.n _ _ start size z) }
+    let z = c.if-start-end.false in
+    record {
+      result_value = cut _ _ _ _ _ start size;
+      lies_at = lies-there refl _ refl (there a.s.now a.at a.n _ _ start size z)
+          (some a.s.now a.at a.n _ _ start size z);
+    }

@@ -20,7 +20,11 @@ shape c = record { roots = search rules; bytes = search rules }
 
 pub returns-then-not-is_sound : goal.returns-then-not-is_sound
 unfolding add_tests first
-returns-then-not-is_sound c = record { judged = refused (rw (sym c.is_sound.ensures ∙ c.if-not-is_sound.true)) tt refl; shaped = shape (goal.at.returns-then-not-is_sound c).After-is_sound }
+returns-then-not-is_sound c = record {
+  judged = refused (rw (sym c.is_sound.ensures ∙ c.if-not-is_sound.true)) tt refl;
+  shaped =
+      shape (goal.at.returns-then-not-is_sound c).After-is_sound;
+}
 
 is-sound : (c : Else-not-is_sound) → sound c.args.stream ≡ true
 is-sound c = sym c.is_sound.ensures ∙ c.if-not-is_sound.false
@@ -42,7 +46,11 @@ room c = ltb-false _ _ (sym c.too_long.ensures ∙ c.if-too_long.false)
 
 pub returns : goal.returns
 unfolding add_tests first
-returns c = record { judged = done (rw (is-sound (goal.at.returns c).Else-not-is_sound, sym c.too_long.ensures ∙ c.if-too_long.false)) c.with_piece-next.ensures; shaped = shape (goal.at.returns c).After-is_sound }
+returns c = record {
+  judged = done (rw (is-sound (goal.at.returns c).Else-not-is_sound, sym c.too_long.ensures ∙ c.if-too_long.false))
+      c.with_piece-next.ensures;
+  shaped = shape (goal.at.returns c).After-is_sound;
+}
 
 pub too_long-requires : goal.too_long-requires
 too_long-requires c = (sound-has _ (is-sound c)).counts.limit

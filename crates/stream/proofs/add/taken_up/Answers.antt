@@ -19,10 +19,12 @@ roots-long : (c : After-grow-2) → length c.grow-2.new.roots ≡ root_room
 roots-long c = search rules
 
 pub slice_bounds-roots-end : goal.slice_bounds-roots-end
-slice_bounds-roots-end c = omega (arith, few (goal.at.slice_bounds-roots-end c).After-held-end, roots-long (goal.at.slice_bounds-roots-end c).After-grow-2)
+slice_bounds-roots-end c =
+    omega (arith, few (goal.at.slice_bounds-roots-end c).After-held-end, roots-long (goal.at.slice_bounds-roots-end c).After-grow-2)
 
 pub returns : goal.returns
-returns c = taken-law c.args.chunks c.args.roots c.args.front.now c.args.rest.now _ _ c.requires.0 c.requires.1 (roots-long (goal.at.returns c).After-grow-2)
+returns c = taken-law c.args.chunks c.args.roots c.args.front.now c.args.rest.now _ _ c.requires.0 c.requires.1
+    (roots-long (goal.at.returns c).After-grow-2)
     c.grow.ensures c.grow-2.ensures c.held-end.ensures c.rest_at-whole.ensures c.padded.ensures
     c.padded-2.ensures
 

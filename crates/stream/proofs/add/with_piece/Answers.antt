@@ -34,19 +34,24 @@ is-filled c =
     filled c.args.stream (shape') c.requires.0 c.args.piece.now c.put_front.new.out c.put_front.ensures
 
 pub returns-then-piece-lead : goal.returns-then-piece-lead
-returns-then-piece-lead c = fills-short c.args.stream (shape (goal.at.returns-then-piece-lead c).After-bytes-1) c.requires.0 c.args.piece.now (is-filled (goal.at.returns-then-piece-lead c).After-put_front) c.if-piece-lead.true
+returns-then-piece-lead c = fills-short c.args.stream (shape (goal.at.returns-then-piece-lead c).After-bytes-1) c.requires.0
+    c.args.piece.now (is-filled (goal.at.returns-then-piece-lead c).After-put_front) c.if-piece-lead.true
 
 pub slice_bounds-bytes-end-2 : goal.slice_bounds-bytes-end-2
-slice_bounds-bytes-end-2 c = begun-within c.args.stream (shape (goal.at.slice_bounds-bytes-end-2 c).After-bytes-1) c.requires.0 c.args.piece.now (is-filled (goal.at.slice_bounds-bytes-end-2 c).After-put_front) c.if-piece-lead.false
+slice_bounds-bytes-end-2 c = begun-within c.args.stream (shape (goal.at.slice_bounds-bytes-end-2 c).After-bytes-1) c.requires.0
+    c.args.piece.now (is-filled (goal.at.slice_bounds-bytes-end-2 c).After-put_front) c.if-piece-lead.false
 
 pub taken_up-requires : goal.taken_up-requires
 taken_up-requires c = (
-  begun-chunked c.args.stream (shape (goal.at.taken_up-requires c).After-bytes-1) c.requires.0 c.args.piece.now (is-filled (goal.at.taken_up-requires c).After-put_front) c.if-piece-lead.false,
-  runs-within c.args.stream (shape (goal.at.taken_up-requires c).After-bytes-1) c.requires.0 c.args.piece.now (is-filled (goal.at.taken_up-requires c).After-put_front) c.if-piece-lead.false c.requires.1,
+  begun-chunked c.args.stream (shape (goal.at.taken_up-requires c).After-bytes-1) c.requires.0 c.args.piece.now
+      (is-filled (goal.at.taken_up-requires c).After-put_front) c.if-piece-lead.false,
+  runs-within c.args.stream (shape (goal.at.taken_up-requires c).After-bytes-1) c.requires.0 c.args.piece.now
+      (is-filled (goal.at.taken_up-requires c).After-put_front) c.if-piece-lead.false c.requires.1,
 )
 
 pub returns : goal.returns
-returns c = fills-long c.args.stream (shape (goal.at.returns c).After-bytes-1) c.requires.0 c.args.piece.now (is-filled (goal.at.returns c).After-put_front) c.if-piece-lead.false c.taken_up.ensures
+returns c = fills-long c.args.stream (shape (goal.at.returns c).After-bytes-1) c.requires.0 c.args.piece.now
+    (is-filled (goal.at.returns c).After-put_front) c.if-piece-lead.false c.taken_up.ensures
 
 pub overflow_sub-lead : goal.overflow_sub-lead
 overflow_sub-lead c = omega (arith, short c)

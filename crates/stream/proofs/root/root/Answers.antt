@@ -21,14 +21,23 @@ shape c = record { roots = search rules; bytes = search rules }
 
 pub returns-then-not-is_sound : goal.returns-then-not-is_sound
 unfolding root_tests first
-returns-then-not-is_sound c = record { judged = refused (rw (sym c.is_sound.ensures ∙ c.if-not-is_sound.true)) tt refl; shaped = shape (goal.at.returns-then-not-is_sound c).After-is_sound }
+returns-then-not-is_sound c = record {
+  judged = refused (rw (sym c.is_sound.ensures ∙ c.if-not-is_sound.true)) tt refl;
+  shaped =
+      shape (goal.at.returns-then-not-is_sound c).After-is_sound;
+}
 
 is-sound : (c : Else-not-is_sound) → sound c.args.stream ≡ true
 is-sound c = sym c.is_sound.ensures ∙ c.if-not-is_sound.false
 
 pub returns-then-out-lt-NODE : goal.returns-then-out-lt-NODE
 unfolding root_tests first
-returns-then-out-lt-NODE c = record { judged = refused (rw (is-sound (goal.at.returns-then-out-lt-NODE c).Else-not-is_sound, lt-ltb _ node_bytes c.if-out-lt-NODE.true)) tt refl; shaped = shape (goal.at.returns-then-out-lt-NODE c).After-is_sound }
+returns-then-out-lt-NODE c =
+    record {
+      judged =
+          refused (rw (is-sound (goal.at.returns-then-out-lt-NODE c).Else-not-is_sound, lt-ltb _ node_bytes c.if-out-lt-NODE.true)) tt refl;
+      shaped = shape (goal.at.returns-then-out-lt-NODE c).After-is_sound;
+    }
 
 pub returns : goal.returns
 unfolding root_tests first

@@ -25,10 +25,15 @@ few : (c : After-held-count) → c.held-count.result ≤ 32
 few c = omega (arith, c.held-count.ensures, (has c).few)
 
 pub slice_bounds-bytes-end : goal.slice_bounds-bytes-end
-slice_bounds-bytes-end c = omega (arith, (has (goal.at.slice_bounds-bytes-end c).After-held-count).counts.short, bytes-long (goal.at.slice_bounds-bytes-end c).After-held-count)
+slice_bounds-bytes-end c = omega (
+  arith,
+  (has (goal.at.slice_bounds-bytes-end c).After-held-count).counts.short,
+  bytes-long (goal.at.slice_bounds-bytes-end c).After-held-count,
+)
 
 pub returns-then-end-gt0 : goal.returns-then-end-gt0
-returns-then-end-gt0 c = root-further c.args.stream c.held-count.ensures (bytes-long (goal.at.returns-then-end-gt0 c).After-held-count) (has (goal.at.returns-then-end-gt0 c).After-held-count).counts.short
+returns-then-end-gt0 c = root-further c.args.stream c.held-count.ensures (bytes-long (goal.at.returns-then-end-gt0 c).After-held-count)
+    (has (goal.at.returns-then-end-gt0 c).After-held-count).counts.short
     c.if-end-gt0.true
     c.leaf.ensures c.fold.ensures
 
@@ -44,17 +49,24 @@ at-within c =
     omega (arith, few', c.if-count-lt1.false)
 
 pub front_node-last-requires : goal.front_node-last-requires
-front_node-last-requires c = simp (length-take, length-drop) (omega (arith, at-within (goal.at.front_node-last-requires c).Else-count-lt1, roots-long (goal.at.front_node-last-requires c).After-held-count))
+front_node-last-requires c = simp (length-take, length-drop)
+    (omega (
+      arith,
+      at-within (goal.at.front_node-last-requires c).Else-count-lt1,
+      roots-long (goal.at.front_node-last-requires c).After-held-count,
+    ))
 
 pub returns : goal.returns
-returns c = root-last c.args.stream c.held-count.ensures root_room (roots-long (goal.at.returns c).After-held-count) (omega (arith, c.if-end-gt0.false)) c.if-count-lt1.false
+returns c = root-last c.args.stream c.held-count.ensures root_room (roots-long (goal.at.returns c).After-held-count)
+    (omega (arith, c.if-end-gt0.false)) c.if-count-lt1.false
     c.front_node-last.ensures c.fold-2.ensures
 
 pub slice_bounds-leaf-end : goal.slice_bounds-leaf-end
 slice_bounds-leaf-end c = sym (length-take-le _ _ (slice_bounds-bytes-end (goal.at.slice_bounds-leaf-end c).After-roots-then-end-gt0-1))
 
 pub fold-requires : goal.fold-requires
-fold-requires c = (omega arith, omega (arith, few (goal.at.fold-requires c).After-held-count, roots-long (goal.at.fold-requires c).After-held-count))
+fold-requires c =
+    (omega arith, omega (arith, few (goal.at.fold-requires c).After-held-count, roots-long (goal.at.fold-requires c).After-held-count))
 
 pub overflow_mul-at : goal.overflow_mul-at
 overflow_mul-at c = record { fits = omega (arith, at-within c) }
@@ -69,4 +81,11 @@ pub slice_bounds-front_node-end : goal.slice_bounds-front_node-end
 slice_bounds-front_node-end c = omega (arith, roots-long (goal.at.slice_bounds-front_node-end c).After-held-count)
 
 pub fold-requires-2 : goal.fold-requires-2
-fold-requires-2 c = (omega arith, omega (arith, at-within (goal.at.fold-requires-2 c).Else-count-lt1, roots-long (goal.at.fold-requires-2 c).After-held-count))
+fold-requires-2 c = (
+  omega arith,
+  omega (
+    arith,
+    at-within (goal.at.fold-requires-2 c).Else-count-lt1,
+    roots-long (goal.at.fold-requires-2 c).After-held-count,
+  ),
+)

@@ -24,7 +24,8 @@ at-within c =
 
 pub returns : goal.returns
 returns c = let whole : length c.fold-node.result ≡ node_bytes = search rules in
-    push-law c.args.roots.now c.args.chunks _ _ _ (rooms (goal.at.returns c).After-joins) c.requires.1 c.held-to.ensures c.joins.ensures whole
+    push-law c.args.roots.now c.args.chunks _ _ _ (rooms (goal.at.returns c).After-joins) c.requires.1 c.held-to.ensures c.joins.ensures
+    whole
     c.fold-node.ensures c.put_front.ensures
 
 pub overflow_sub-from : goal.overflow_sub-from

@@ -46,12 +46,15 @@ roots-asked c =
     c.bytes_zero.ensures
 
 pub returns-then-not-bytes_zero : goal.returns-then-not-bytes_zero
-returns-then-not-bytes_zero c = sym (bad-roots _ (counted (goal.at.returns-then-not-bytes_zero c).Else-not-counts) (sym (roots-asked (goal.at.returns-then-not-bytes_zero c).After-bytes_zero) ∙ c.if-not-bytes_zero.true))
+returns-then-not-bytes_zero c =
+    sym (bad-roots _ (counted (goal.at.returns-then-not-bytes_zero c).Else-not-counts)
+    (sym (roots-asked (goal.at.returns-then-not-bytes_zero c).After-bytes_zero) ∙ c.if-not-bytes_zero.true))
 
 pub returns : goal.returns
 returns c = let s = c.args.stream in
     zeros-asked chunk_bytes s.further s.bytes (bytes-long (goal.at.returns c).After-held-end) refl c.bytes_zero-2.ensures
-    ∙ sym (by_bytes _ (counted (goal.at.returns c).Else-not-counts) (sym (roots-asked (goal.at.returns c).After-bytes_zero) ∙ c.if-not-bytes_zero.false))
+    ∙ sym (by_bytes _ (counted (goal.at.returns c).Else-not-counts)
+    (sym (roots-asked (goal.at.returns c).After-bytes_zero) ∙ c.if-not-bytes_zero.false))
 
 pub overflow_mul-end : goal.overflow_mul-end
 overflow_mul-end c = record { fits = omega (arith, few c) }

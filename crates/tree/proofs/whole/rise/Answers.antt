@@ -14,7 +14,8 @@ pub slice_bounds-level-end : goal.slice_bounds-level-end
 slice_bounds-level-end c = omega arith
 
 pub slice_bounds-level-end-in-loop-left : goal.slice_bounds-level-end-in-loop-left
-slice_bounds-level-end-in-loop-left c = sym (length-take-le _ _ (slice_bounds-level-end (goal.at.slice_bounds-level-end-in-loop-left c).In-loop-left))
+slice_bounds-level-end-in-loop-left c =
+    sym (length-take-le _ _ (slice_bounds-level-end (goal.at.slice_bounds-level-end-in-loop-left c).In-loop-left))
 
 pub loop-left-preserved : goal.loop-left-preserved
 loop-left-preserved c = let l = c.loop-left in
