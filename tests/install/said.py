@@ -32,7 +32,7 @@ texts = {int(row[0]): row[1] for row in rows("## Calls and their numbers", "no. 
 assert sorted(texts) == list(range(18))
 expected += [f"answer {n} {texts.get(n, 'no such answer')}" for n in range(20)] + ["answer 2^64-1 no such answer"]
 answers = (root / "crates/answers/src/lib.rt").read_text(encoding="utf-8")
-expected += [f"name DW_{camel(name)} {n}" for name, n in re.findall(r"Answer::(\w+) => (\d+),", answers)]
+expected += [f"name DW_{camel(name)} {n}" for name, n in [("Done", "0")] + re.findall(r"Refusal::(\w+) => (\d+),", answers)]
 editions = rows("## Editions", "no. |")
 expected += [f"name DW_{re.sub('-', '', row[1]).replace('/', '_')} {row[0]}" for row in editions]
 sizes = {int(row[0]): int(row[4]) for row in editions}

@@ -5,40 +5,69 @@ use mathlib.Core.List.{List, [], ◌∷◌}
 use Prim.Native.Nat.{ℕ, zero, suc}
 use lib.Dec.{T, ltb}
 use lib.ListN.{get_or}
-use Rattle.answers.specs.declared.Answer.{Answer}
-use Rattle.answers.specs.Judged.{Test, Judged, first, after}
-use Rattle.answers.specs.Numbers.{number_of}
+use Rattle.std.specs.Prelude.{Result, Ok, Err}
+use Rattle.answers.specs.declared.Refusal.{Refusal}
+use Rattle.answers.specs.Judged.{Test, Judged, first, after, handed}
+use Rattle.answers.specs.Numbers.{Answer, number_of, refusal_number}
 
 -- the answers in the order of their numbers
 abbrev pub answers : List Answer
 answers =
-    Answer.Done ∷ Answer.BadTable ∷ Answer.NoSuchBay ∷ Answer.BayTaken ∷ Answer.BayEmpty
-    ∷ Answer.NoSuchEdition ∷ Answer.NotSound ∷ Answer.TooLong ∷ Answer.BadClosing ∷ Answer.ShortOutput
-    ∷ Answer.BadRecord ∷ Answer.BadLayout ∷ Answer.NotAList ∷ Answer.NotListed ∷ Answer.DigestDiffers
-    ∷ Answer.ForbiddenName ∷ Answer.NameTaken ∷ Answer.ListFull ∷ []
+    Ok tt
+    ∷ Err Refusal.BadTable ∷ Err Refusal.NoSuchBay ∷ Err Refusal.BayTaken ∷ Err Refusal.BayEmpty
+    ∷ Err Refusal.NoSuchEdition ∷ Err Refusal.NotSound ∷ Err Refusal.TooLong ∷ Err Refusal.BadClosing
+    ∷ Err Refusal.ShortOutput ∷ Err Refusal.BadRecord ∷ Err Refusal.BadLayout ∷ Err Refusal.NotAList
+    ∷ Err Refusal.NotListed ∷ Err Refusal.DigestDiffers ∷ Err Refusal.ForbiddenName ∷ Err Refusal.NameTaken
+    ∷ Err Refusal.ListFull ∷ []
 
-pub answer_at : (a : Answer) → get_or answers (number_of a) Answer.Done ≡ a
-answer_at Answer.Done = refl
-answer_at Answer.BadTable = refl
-answer_at Answer.NoSuchBay = refl
-answer_at Answer.BayTaken = refl
-answer_at Answer.BayEmpty = refl
-answer_at Answer.NoSuchEdition = refl
-answer_at Answer.NotSound = refl
-answer_at Answer.TooLong = refl
-answer_at Answer.BadClosing = refl
-answer_at Answer.ShortOutput = refl
-answer_at Answer.BadRecord = refl
-answer_at Answer.BadLayout = refl
-answer_at Answer.NotAList = refl
-answer_at Answer.NotListed = refl
-answer_at Answer.DigestDiffers = refl
-answer_at Answer.ForbiddenName = refl
-answer_at Answer.NameTaken = refl
-answer_at Answer.ListFull = refl
+pub answer_at : (a : Answer) → get_or answers (number_of a) (Ok tt) ≡ a
+answer_at (Ok tt) = refl
+answer_at (Err Refusal.BadTable) = refl
+answer_at (Err Refusal.NoSuchBay) = refl
+answer_at (Err Refusal.BayTaken) = refl
+answer_at (Err Refusal.BayEmpty) = refl
+answer_at (Err Refusal.NoSuchEdition) = refl
+answer_at (Err Refusal.NotSound) = refl
+answer_at (Err Refusal.TooLong) = refl
+answer_at (Err Refusal.BadClosing) = refl
+answer_at (Err Refusal.ShortOutput) = refl
+answer_at (Err Refusal.BadRecord) = refl
+answer_at (Err Refusal.BadLayout) = refl
+answer_at (Err Refusal.NotAList) = refl
+answer_at (Err Refusal.NotListed) = refl
+answer_at (Err Refusal.DigestDiffers) = refl
+answer_at (Err Refusal.ForbiddenName) = refl
+answer_at (Err Refusal.NameTaken) = refl
+answer_at (Err Refusal.ListFull) = refl
 
 pub number-injective : (a b : Answer) → number_of a ≡ number_of b → a ≡ b
-number-injective a b e = sym (answer_at a) ∙ ap (λ (n : ℕ). get_or answers n Answer.Done) e ∙ answer_at b
+number-injective a b e = sym (answer_at a) ∙ ap (λ (n : ℕ). get_or answers n (Ok tt)) e ∙ answer_at b
+
+-- a refusal's number is not 0
+pub refusing-number : (r : Refusal) → T (ltb 0 (refusal_number r))
+refusing-number Refusal.BadTable = tt
+refusing-number Refusal.NoSuchBay = tt
+refusing-number Refusal.BayTaken = tt
+refusing-number Refusal.BayEmpty = tt
+refusing-number Refusal.NoSuchEdition = tt
+refusing-number Refusal.NotSound = tt
+refusing-number Refusal.TooLong = tt
+refusing-number Refusal.BadClosing = tt
+refusing-number Refusal.ShortOutput = tt
+refusing-number Refusal.BadRecord = tt
+refusing-number Refusal.BadLayout = tt
+refusing-number Refusal.NotAList = tt
+refusing-number Refusal.NotListed = tt
+refusing-number Refusal.DigestDiffers = tt
+refusing-number Refusal.ForbiddenName = tt
+refusing-number Refusal.NameTaken = tt
+refusing-number Refusal.ListFull = tt
+
+pub refusal-injective : (r s : Refusal) → refusal_number r ≡ refusal_number s → r ≡ s
+refusal-injective r s e = error-of (number-injective (Err r) (Err s) e)
+  where
+    error-of : {A : Type 0} {r s : Refusal} → ◌≡◌ {A = Result A Refusal} (Err r) (Err s) → r ≡ s
+    error-of e = cc
 
 pub outcome-settled : {A : Type 0} {tests : List Test} {old new : A} {n m : ℕ} {left also : A} →
     Judged tests old new n left → Judged tests old new m also → (n ≡ m) × (left ≡ also)
@@ -63,6 +92,14 @@ pub answer-both : {A : Type 0} {tests : List Test} {old new : A} {r s : Answer} 
 answer-both {r = r} {s = s} j k =
     let o = answer-settled r s j k in
     λ i. (o.0 i, o.1 i)
+
+-- the same of a call that hands its result out
+pub handed-settled : {A : Type 0} {tests : List Test} {old new : A} (r s : Result A Refusal) →
+    Judged tests old new (number_of r) (handed old r) → Judged tests old new (number_of s) (handed old s) → r ≡ s
+handed-settled (Ok a) (Ok b) j k = ap Ok (j.leaves ∙ sym k.leaves)
+handed-settled (Ok a) (Err s) j k = absurd (rw (sym (j.answer ∙ sym k.answer)) at (refusing-number s))
+handed-settled (Err r) (Ok b) j k = absurd (rw (j.answer ∙ sym k.answer) at (refusing-number r))
+handed-settled (Err r) (Err s) j k = ap Err (refusal-injective r s (j.answer ∙ sym k.answer))
 
 -- an answer of which the number is said
 pub answer-numbered : {n : ℕ} {r s : Answer} → number_of r ≡ n → number_of s ≡ n → r ≡ s

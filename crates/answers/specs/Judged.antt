@@ -1,6 +1,7 @@
 -- How a call is judged: SPEC, "Calls and their numbers".
 -- A call's refusals are a list of tests; by `Judged` the earliest that holds is the answer, and decides what is left of what was lent.
-use Rattle.std.specs.Prelude.{◌≡◌, Bool, cond, List, [], ◌∷◌, ℕ, zero, suc}
+use Rattle.std.specs.Prelude.{◌≡◌, Bool, cond, List, [], ◌∷◌, ℕ, zero, suc, Result, Ok, Err}
+use Rattle.answers.specs.declared.Refusal.{Refusal}
 
 -- one reason to refuse: its number, and whether it applies
 pub record Test : Type 0 where
@@ -21,6 +22,11 @@ first (t ∷ ts) = cond t.applies t.number (first ts)
 abbrev pub after : {A : Type 0} → ℕ → A → A → A
 after zero old new = new
 after (suc n) old new = old
+
+-- what is left where a call hands its result out: what it hands out, and the old where it refuses
+abbrev pub handed : {A : Type 0} → A → Result A Refusal → A
+handed old (Ok new) = new
+handed old (Err r) = old
 
 -- what the calls with an output are lent: the table's words and the output's bytes
 pub record Lent : Type 0 where

@@ -1,14 +1,15 @@
 // The answers that the calls give: SPEC, "Calls and their numbers".
-// An enum with a case for each number of its table, in the table's order, and the number of a case.
+// A call did what was asked, or refused: an enum has a case for each refusal of that table, in the table's order.
 #![tactic(auto)]
 
 ghost use Rattle.std.specs.Prelude.{◌≡◌};
-ghost use Rattle.answers.specs.Numbers.{number_of};
+ghost use Rattle.answers.specs.Numbers.{number_of, refusal_number};
 
-#[derive(Clone, Copy)]
-pub enum Answer {
-    // 0: the call did what was asked
-    Done,
+// Done, or why not.
+pub type Answer = Result<(), Refusal>;
+
+#[derive(Clone, Copy, Debug, PartialEq, Eq)]
+pub enum Refusal {
     // 1: the run is no table of bays
     BadTable,
     // 2: the table has no bay of that number
@@ -45,27 +46,38 @@ pub enum Answer {
     ListFull,
 }
 
+impl From<Refusal> for u64 {
+    ghost from_gives = { λ r n. n ≡ refusal_number r };
+
+    fn from(refusal: Refusal) -> u64 {
+        match refusal {
+            Refusal::BadTable => 1,
+            Refusal::NoSuchBay => 2,
+            Refusal::BayTaken => 3,
+            Refusal::BayEmpty => 4,
+            Refusal::NoSuchEdition => 5,
+            Refusal::NotSound => 6,
+            Refusal::TooLong => 7,
+            Refusal::BadClosing => 8,
+            Refusal::ShortOutput => 9,
+            Refusal::BadRecord => 10,
+            Refusal::BadLayout => 11,
+            Refusal::NotAList => 12,
+            Refusal::NotListed => 13,
+            Refusal::DigestDiffers => 14,
+            Refusal::ForbiddenName => 15,
+            Refusal::NameTaken => 16,
+            Refusal::ListFull => 17,
+        }
+    }
+}
+
+// The number of an answer: 0 where the call did what was asked.
 pub fn number(answer: Answer) -> u64
     ensures { result ≡ number_of answer }
 {
     match answer {
-        Answer::Done => 0,
-        Answer::BadTable => 1,
-        Answer::NoSuchBay => 2,
-        Answer::BayTaken => 3,
-        Answer::BayEmpty => 4,
-        Answer::NoSuchEdition => 5,
-        Answer::NotSound => 6,
-        Answer::TooLong => 7,
-        Answer::BadClosing => 8,
-        Answer::ShortOutput => 9,
-        Answer::BadRecord => 10,
-        Answer::BadLayout => 11,
-        Answer::NotAList => 12,
-        Answer::NotListed => 13,
-        Answer::DigestDiffers => 14,
-        Answer::ForbiddenName => 15,
-        Answer::NameTaken => 16,
-        Answer::ListFull => 17,
+        Ok(()) => 0,
+        Err(refusal) => u64::from(refusal),
     }
 }

@@ -126,9 +126,9 @@ pub put_bay-same : (t : List ℕ) (i : ℕ) → put_bay t i (bay_at t i) ≡ t
 unfolding put_bay bay_at
 put_bay-same t i = put_same (place_of i) bay_words t
 
--- ---- as the code has it: the part from the place `at` on, lent and come back
+-- ---- as the code has it: the part from the place `at` on lent, and come back
 
-pub bay-at : (t : List ℕ) (i at : ℕ) → at ≡ place_of i → part t at (at + bay_words - at) ≡ bay_at t i
+bay-at : (t : List ℕ) (i at : ℕ) → at ≡ place_of i → part t at (at + bay_words - at) ≡ bay_at t i
 unfolding bay_at
 bay-at t i at e = rw (add-sub_cancel_left at bay_words, e)
 

@@ -9,7 +9,6 @@ use lib.ListN.{length}
 use borrow.Author.Tests.{lt-leb, leb-false, not-false}
 use Rattle.answers.specs.Judged.{Test, first, after}
 use Rattle.answers.proofs.Tests.{passed, first_on, first_off}
-use Rattle.answers.proofs.Refusals.{kept-old}
 use Rattle.slices.proofs.Tests.{fails-at}
 use Rattle.bays.specs.Places.{first_bay, bay_words, place_of}
 use Rattle.bays.specs.Table.{bays_of, room_for, headed, bay_at}
@@ -60,6 +59,3 @@ module _ (t : List ℕ) (i : ℕ) (us : List Test) where
 -- what is left of a table by a write that passes the gate itself
 pub gate-writes : (t : List ℕ) (i : ℕ) {new : List ℕ} → first (gate_tests t i) ≡ 0 → after (first (gate_tests t i)) t new ≡ new
 gate-writes t i g = rw g
-
-pub gate-keeps : (t : List ℕ) (i : ℕ) {n : ℕ} (new : List ℕ) → n ≡ first (gate_tests t i) → 0 < n → t ≡ after (first (gate_tests t i)) t new
-gate-keeps t i new e p = sym (kept-old (first (gate_tests t i)) t new (omega arith))

@@ -8,7 +8,7 @@ use native.Mathlib.Omega.{arith}
 use lib.ListN.{length, take, drop, get_or, set, replicate, length-append, length-take, length-drop, length-set}
 use lib.ListN.{take-append-drop, drop_of_length-le}
 use lib.Seq.{take_at, drop_at, drop-cons, drop-drop, take_all}
-use Rattle.bigendian.specs.BigEndian.{be, word64, number}
+use Rattle.bigendian.specs.BigEndian.{be, word64}
 use Rattle.slices.specs.Below.{Below, Bytes}
 use Rattle.bigendian.specs.Words.{from_words, to_words, with_words}
 use Rattle.slices.proofs.Below.{below-cons, below-append, below-take, below-drop}
@@ -91,14 +91,14 @@ module _ (b : List ℕ) (fits : length b ≡ bay_words) (words : Below (2 ^ 64) 
 
 -- eight words copied over eight others, and the bytes of sixteen put over a tail
 pub unpacked : (b words tail eight old : List ℕ) → length b ≡ bay_words → length eight ≡ chain_words → length old ≡ tail_room →
-    words ≡ at_front (take chain_words (drop chain_from b)) eight → tail ≡ with_words 8 (take (length b - tail_from) (drop tail_from b)) old
+    words ≡ at_front (take chain_words (drop chain_from b)) eight → tail ≡ with_words 8 (take tail_words (drop tail_from b)) old
     →
     half_of b ≡ record { edition = get_or b edition_word 0; count = get_or b count_word 0; words = words; tail = tail }
 unfolding half_of
 unpacked b words tail eight old fits e long w t =
     let part : length (take chain_words (drop chain_from b)) ≡ length eight = simp (length-take, length-drop, fits) (sym e) in
-    let all : take (length b - tail_from) (drop tail_from b) ≡ drop tail_from b =
-    take_all (length b - tail_from) (drop tail_from b) (rw (length-drop tail_from b) (omega arith)) in
+    let all : take tail_words (drop tail_from b) ≡ drop tail_from b =
+    take_all tail_words (drop tail_from b) (rw (length-drop tail_from b) (omega arith)) in
     let room : length old ≡ length (drop tail_from b) * 8 = rw (length-drop tail_from b, fits) long in
     let chain : words ≡ take chain_words (drop chain_from b) = w ∙ at_front-all (take chain_words (drop chain_from b)) eight (sym part) in
     let bytes : tail ≡ from_words 8 (drop tail_from b) =
@@ -160,10 +160,6 @@ zeros-empty = zeros-all_zero bay_words
 pub empty-zeros : (b : List ℕ) → length b ≡ bay_words → is_empty b ≡ true → b ≡ empty_bay
 unfolding is_empty
 empty-zeros b fits e = all_zero-zeros b e ∙ ap (λ (n : ℕ). replicate n 0) fits
-
-pub bay_of-blank : bay_of blank ≡ empty_bay
-unfolding bay_of blank to_words number
-bay_of-blank = refl
 
 pub half_of-empty : half_of empty_bay ≡ blank
 unfolding half_of blank from_words be

@@ -2,13 +2,10 @@
 -- `Learnt` is that contract, made from src. SPEC, "How much each call says".
 use Prim.Native.Nat.{ℕ}
 use mathlib.Core.List.{List}
-use mathlib.Core.Path.{ap}
 use Rattle.contracts.specs.Says.{Settles}
 use Rattle.contracts.proofs.Values.{value-settled}
-use Rattle.answers.specs.declared.Answer.{Answer}
-use Rattle.answers.proofs.Outcome.{answer-both, answer-numbered}
-use Rattle.halfread.specs.declared.HalfRead.{HalfRead}
-use Rattle.bays.specs.declared.in_place.Held.{Held}
+use Rattle.answers.specs.Numbers.{Answer}
+use Rattle.answers.proofs.Outcome.{answer-both, answer-numbered, handed-settled}
 use Rattle.bays.specs.contracts.table.lay_out as lay-out
 use Rattle.bays.proofs.table.lay_out.Reads as lay-out-reads
 use Rattle.bays.specs.contracts.table.gate as gate
@@ -30,10 +27,6 @@ use Rattle.bays.proofs.lent.half_in.Reads as half-in-reads
 use Rattle.bays.specs.contracts.lent.words_of as words_of
 use Rattle.bays.proofs.lent.words_of.Reads as words-of-reads
 
--- an answer and a half-read message as one struct
-abbrev whole : Answer × HalfRead → Held
-whole p = record { answer = p.0; half = p.1 }
-
 pub lay-out-settled : Settles {A = Answer × List ℕ} lay-out.ended lay-out-reads.Learnt (λ κs r x. (r, x.0.now))
 lay-out-settled κs a r s x y = answer-both
 
@@ -47,10 +40,10 @@ pub gate-free-settled : Settles gate-free.ended gate-free-reads.Learnt (λ κs r
 gate-free-settled κs a r s x y = answer-numbered
 
 pub taken-at-settled : Settles taken_at.ended taken-at-reads.Learnt (λ κs r x. r)
-taken-at-settled κs a r s x y j k = ap whole (answer-both j k)
+taken-at-settled κs a r s x y = handed-settled r s
 
 pub sound-at-settled : Settles sound-at.ended sound-at-reads.Learnt (λ κs r x. r)
-sound-at-settled κs a r s x y j k = ap whole (answer-both j k)
+sound-at-settled κs a r s x y = handed-settled r s
 
 pub put-at-settled : Settles put-at.ended put-at-reads.Learnt (λ κs r x. x.0.now)
 put-at-settled κs a r s x y = value-settled

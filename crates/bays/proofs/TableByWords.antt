@@ -11,9 +11,9 @@ use lib.ListN.{length, get_or, drop, get_or-replicate}
 use lib.Seq.{get_or-take, get_or-drop, ext_get_or}
 use borrow.Author.Tests.{le-leb, eqb-true, not-false}
 use Rattle.contracts.specs.Says.{Made, exit}
-use Rattle.answers.specs.declared.Answer.{Answer}
+use Rattle.std.specs.Prelude.{Ok}
 use Rattle.answers.specs.Judged.{Judged}
-use Rattle.answers.specs.Numbers.{number_of}
+use Rattle.answers.specs.Numbers.{Answer, number_of}
 use Rattle.answers.proofs.Refusals.{done_first, done-leaves}
 use Rattle.answers.proofs.Tests.{passed}
 use Rattle.slices.proofs.Tests.{holds_at, holds_on, holds-last}
@@ -132,11 +132,11 @@ module _ (n : ℕ) (t : List ℕ) where
 
 -- by the contract of the code: a layout that is done
 laid_done : (n : ℕ) (t : List ℕ) (r : Answer) {left : List ℕ} → Judged (layout_tests t n) t (laid_out n t) (number_of r) left →
-    r ≡ Answer.Done → Laid n t left
+    r ≡ Ok tt → Laid n t left
 laid_done n t r j d =
     subst (Laid n t) (sym (done-leaves j d))
     (laid-by-words n t (not-false (room_for n (length t)) (passed (layout_tests t n) tt (done_first j d) 0)))
 
-pub lay-out-by-words : (m : Made lay-out.ended lay-out-reads.Learnt) → m.result ≡ Answer.Done →
+pub lay-out-by-words : (m : Made lay-out.ended lay-out-reads.Learnt) → m.result ≡ Ok tt →
     Laid m.args.1.0 m.args.0.now (exit m).0.now
 lay-out-by-words m d = laid_done m.args.1.0 m.args.0.now m.result m.learnt d

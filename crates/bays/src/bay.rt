@@ -4,7 +4,7 @@ ghost use Rattle.bays.specs.Places.{bay_words};
 ghost use Rattle.bays.specs.Bay.{half_of, bay_of};
 
 use halfread::HalfRead;
-use slices::front::put_words_front;
+use slices::front::put_front;
 
 // Where they stand: the edition, the bytes taken, the chaining words, and the tail, whose words go to the bay's end.
 const EDITION: usize = 0;
@@ -18,12 +18,11 @@ const TAIL: usize = CHAIN + 8;
 pub(crate) const WORDS: usize = TAIL + halfread::TAIL / 8;
 
 // The chaining words are copied, and the words of the tail are made bytes.
-pub(crate) fn unpack(bay: &[u64]) -> HalfRead
-    requires { length bay.now ≡ bay_words }
+pub(crate) fn unpack(bay: &[u64; WORDS]) -> HalfRead
     ensures { result ≡ half_of bay.now }
 {
     let mut words = [0u64; 8];
-    put_words_front(&mut words, &bay[CHAIN..TAIL]);
+    put_front(&mut words, &bay[CHAIN..TAIL]);
     let mut tail = [0u8; halfread::TAIL];
     bigendian::put_words(&mut tail, &bay[TAIL..], 8);
     HalfRead {
@@ -34,14 +33,13 @@ pub(crate) fn unpack(bay: &[u64]) -> HalfRead
     }
 }
 
+// A slice, since what is written behind the array that a slice lends as `first_chunk_mut` is not known to the one who asked for it.
 pub(crate) fn pack(bay: &mut [u64], half: HalfRead)
     requires { length bay.old ≡ bay_words }
     ensures { bay.new ≡ bay_of half }
 {
-    let words = half.words;
-    let tail = half.tail;
     bay[EDITION] = half.edition;
     bay[COUNT] = half.count;
-    put_words_front(&mut bay[CHAIN..TAIL], &words);
-    bigendian::get_words(&mut bay[TAIL..], &tail, 8);
+    put_front(&mut bay[CHAIN..TAIL], &half.words);
+    bigendian::get_words(&mut bay[TAIL..], &half.tail, 8);
 }

@@ -7,7 +7,7 @@ ghost use Rattle.bays.specs.Bay.{half_of, bay_of};
 
 use crate::bay::{pack, unpack};
 use halfread::HalfRead;
-use slices::front::put_words_front;
+use slices::front::put_front;
 
 // How many they are.
 pub const WORDS: usize = crate::bay::WORDS;
@@ -17,7 +17,7 @@ pub fn half_in(words: &[u64]) -> HalfRead
     ensures { result ≡ half_of (padded bay_words words.now) }
 {
     let mut bay = [0u64; WORDS];
-    put_words_front(&mut bay, words);
+    put_front(&mut bay, words);
     unpack(&bay)
 }
 

@@ -1,5 +1,5 @@
 // The lent run of words: its header, the gate that every call on a bay passes, and where a bay lies. SPEC, "The table of bays".
-ghost use Rattle.std.specs.Prelude.{◌≡◌, ◌+◌, ◌≤◌};
+ghost use Rattle.std.specs.Prelude.{◌≡◌, ◌+◌, ◌≤◌, length, IfOk};
 ghost use Rattle.answers.specs.Judged.{first, Judged};
 ghost use Rattle.answers.specs.Numbers.{number_of};
 ghost use Rattle.bays.specs.Places.{bay_words, place_of};
@@ -7,7 +7,7 @@ ghost use Rattle.bays.specs.Table.{room_for, headed, laid_out};
 ghost use Rattle.bays.specs.Gate.{gate_tests, layout_tests};
 
 use crate::bay::WORDS;
-use answers::Answer;
+use answers::{Answer, Refusal};
 use slices::zero::clear;
 
 // The header: how many bays, where the first begins, how many words each has, and a zero.
@@ -63,20 +63,21 @@ pub fn gate(table: &[u64], bay: u64) -> Answer
     ensures { number_of result ≡ first (gate_tests table.now bay) }
 {
     if !headed(table) {
-        return Answer::BadTable;
+        return Err(Refusal::BadTable);
     }
     if table[BAYS_AT] <= bay {
-        return Answer::NoSuchBay;
+        return Err(Refusal::NoSuchBay);
     }
-    Answer::Done
+    Ok(())
 }
 
-// Where a bay begins that lies within so many words.
-pub(crate) fn place(bay: u64, len: usize) -> usize
-    requires { place_of bay + bay_words ≤ len }
-    ensures { result ≡ place_of bay }
+// Where a bay begins, behind the gate: all its words lie within the table.
+pub(crate) fn place(table: &[u64], bay: u64) -> Result<usize, Refusal>
+    ensures answer { number_of result ≡ first (gate_tests table.now bay) }
+    ensures value { IfOk result (λ at. (at ≡ place_of bay) × (place_of bay + bay_words ≤ length table.now)) }
 {
-    FIRST + WORDS * bay as usize
+    gate(table, bay)?;
+    Ok(FIRST + WORDS * bay as usize)
 }
 
 // The header, and zeros in so many bays; what lies behind them is the caller's.
@@ -85,7 +86,7 @@ pub fn lay_out(table: &mut [u64], bays: u64) -> Answer
         table.new }
 {
     if !room_for(bays, table.len()) {
-        return Answer::BadLayout;
+        return Err(Refusal::BadLayout);
     }
     let end = FIRST + WORDS * bays as usize;
     table[BAYS_AT] = bays;
@@ -93,5 +94,5 @@ pub fn lay_out(table: &mut [u64], bays: u64) -> Answer
     table[SIZE_AT] = WORDS as u64;
     table[ZERO_AT] = 0;
     clear(&mut table[FIRST..end]);
-    Answer::Done
+    Ok(())
 }

@@ -8,20 +8,12 @@ ghost use Rattle.std.specs.Prelude.{◌≡◌, map, ◌+◌, ◌/◌, ◌≤◌,
 ghost use Rattle.bigendian.specs.BigEndian.{be, number, word64};
 ghost use Rattle.bigendian.specs.Words.{to_words, with_words};
 
-fn wide(b: u8) -> u64
-    ensures { result ≡ b }
-{
-    b as u64
-}
-
 // The bytes of x, as many as d has: where d is longer than x, zeros stand in front.
 pub fn put(d: &mut [u8], x: u64)
     ensures { d.new ≡ be (length d.old) x }
 {
     let mut rest = x;
-    let mut i = d.len();
-    while 0 < i {
-        i -= 1;
+    for i in (0..d.len()).rev() {
         d[i] = (rest % 256) as u8;
         rest /= 256;
     }
@@ -31,12 +23,10 @@ pub fn put(d: &mut [u8], x: u64)
 pub fn get(s: &[u8]) -> u64
     ensures { result ≡ word64 (number s.now) }
 {
-    let mut x: u64 = 0;
-    let mut i = 0;
-    while i < s.len() {
+    let mut x = 0;
+    for b in s {
         // x % 2^56 is what the next byte leaves of x
-        x = x % 72057594037927936 * 256 + wide(s[i]);
-        i += 1;
+        x = x % 72057594037927936 * 256 + u64::from(*b);
     }
     x
 }
@@ -45,11 +35,7 @@ pub fn get(s: &[u8]) -> u64
 fn room(words: usize, bytes: usize, n: usize) -> usize
     ensures { result ≡ min words (bytes / n) }
 {
-    if n == 0 {
-        return 0;
-    }
-    let fit = bytes / n;
-    if words < fit { words } else { fit }
+    if n == 0 { 0 } else { words.min(bytes / n) }
 }
 
 // The words as n bytes each at the front of d, as many as find room; what follows them stays.
@@ -58,12 +44,10 @@ pub fn put_words(d: &mut [u8], words: &[u64], n: usize)
 {
     let m = room(words.len(), d.len(), n);
     let mut at = 0;
-    let mut i = 0;
-    while i < m {
+    for word in &words[..m] {
         let end = at + n;
-        put(&mut d[at..end], words[i]);
+        put(&mut d[at..end], *word);
         at = end;
-        i += 1;
     }
 }
 
@@ -72,7 +56,7 @@ fn end_of(at: usize, n: usize, len: usize) -> usize
     requires { at ≤ len }
     ensures { result ≡ min (at + n) len }
 {
-    if n < len - at { at + n } else { len }
+    at + n.min(len - at)
 }
 
 // Words of n bytes each from the front of s, as many as d has; where s runs out, of the bytes that are left.
@@ -80,12 +64,10 @@ fn cut_words(d: &mut [u64], s: &[u8], n: usize)
     ensures { d.new ≡ map word64 (to_words (length d.old) n s.now) }
 {
     let mut at = 0;
-    let mut i = 0;
-    while i < d.len() {
+    for word in d.iter_mut() {
         let end = end_of(at, n, s.len());
-        d[i] = get(&s[at..end]);
+        *word = get(&s[at..end]);
         at = end;
-        i += 1;
     }
 }
 
@@ -95,14 +77,12 @@ fn cut_words(d: &mut [u64], s: &[u8], n: usize)
 pub fn get_words(d: &mut [u64], s: &[u8], n: usize)
     ensures { d.new ≡ map word64 (to_words (length d.old) n s.now) }
 {
-    let m = room(d.len(), s.len(), n);
+    let (whole, rest) = d.split_at_mut(room(d.len(), s.len(), n));
     let mut at = 0;
-    let mut i = 0;
-    while i < m {
+    for word in whole.iter_mut() {
         let next = at + n;
-        d[i] = get(&s[at..next]);
+        *word = get(&s[at..next]);
         at = next;
-        i += 1;
     }
-    cut_words(&mut d[i..], &s[at..], n);
+    cut_words(rest, &s[at..], n);
 }

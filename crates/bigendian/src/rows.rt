@@ -6,24 +6,20 @@ ghost use Rattle.bigendian.specs.Rows.{field_in};
 ghost use Rattle.bigendian.specs.Code.PutRow.{put_row};
 
 use crate::{get, put};
-use slices::places::{least, part};
+use slices::places::part;
 
 // The values in fields of those sizes at the front of d, as long as there are both and a whole field finds room; what follows them stays.
 pub fn put_row(d: &mut [u8], sizes: &[usize], values: &[u64])
     ensures { d.new ≡ put_row sizes.now values.now d.old }
 {
-    let fields = least(sizes.len(), values.len());
     let mut at = 0;
-    let mut i = 0;
-    while i < fields {
-        let size = sizes[i];
-        if d.len() - at < size {
+    for (size, value) in sizes.iter().zip(values) {
+        if d.len() - at < *size {
             return;
         }
-        let end = at + size;
-        put(&mut d[at..end], values[i]);
+        let end = at + *size;
+        put(&mut d[at..end], *value);
         at = end;
-        i += 1;
     }
 }
 

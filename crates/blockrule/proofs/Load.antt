@@ -1,14 +1,14 @@
 -- Loading: a word is the number of its bytes, and a block is its words, each taken one more at a time.
--- Main statements: `load-all`, a word loaded, and `words_more`, one word more of a block.
+-- Main statements: `four-bytes` and `eight-bytes`, a word loaded, and `words_more`, one word more of a block.
 use Prim.Native.Nat.{ℕ, zero, suc, ◌+◌, ◌*◌, ◌^◌, ◌≤◌, ◌<◌}
 use mathlib.Core.List.{List, [], ◌∷◌, ◌++◌}
 use mathlib.Core.Path.{◌≡◌, refl, ap, ◌∙◌}
-use native.Mathlib.Nat.{mul_assoc, mul-suc, mul-zero, add_comm, pow-suc, pow-le-pow_right, lt_of_lt_of_le}
+use native.Mathlib.Nat.{mul_assoc, mul-suc, mul-zero, add_comm, pow-suc}
 use native.Mathlib.Numerals.{add-one}
 use native.Mathlib.Omega.{arith}
-use lib.Arith.{digits_lt}
-use lib.ListN.{length, get_or, set, take, drop, length-append, length-drop}
-use lib.Seq.{take-suc, get_or-drop, drop-drop}
+use lib.ListN.{length, get_or, set, take, drop, length-append}
+use lib.Seq.{take-suc, take_all, drop-drop}
+use Rattle.std.specs.Int.{w32, w64, from_be_bytes}
 use Rattle.bigendian.specs.BigEndian.{number}
 use Rattle.bigendian.specs.Words.{to_words}
 use Rattle.slices.proofs.Fill.{Filled, fill_more}
@@ -22,39 +22,38 @@ number-snoc (x ∷ bs) b =
     rw (number-snoc bs b, length-append bs (b ∷ []), add-one (length bs), pow-suc 256 (length bs), ← mul_assoc x (256 ^ length bs) 256)
     (omega arith)
 
--- x is the number of the first i bytes from `at`, of n that make a word
-pub record Loaded (n : ℕ) (s : List ℕ) (at i x : ℕ) : Type 0 where
-  pub within : i ≤ n
-  pub is : x ≡ number (take i (drop at s))
-  pub below : x < 256 ^ i
+-- the library reads a word's bytes as `number` does
+module _ (bs : List ℕ) where
+  none : number (take 0 bs) ≡ 0
+  unfolding number
+  none = refl
 
-pub load-none : {n : ℕ} {s : List ℕ} {at : ℕ} → Loaded n s at 0 0
-unfolding number
-load-none = record { within = omega arith; is = refl; below = omega arith }
+  one-more : (i : ℕ) → i < length bs → number (take (suc i) bs) ≡ number (take i bs) * 256 + get_or bs i 0
+  one-more i h = rw (take-suc bs i 0 h, number-snoc)
 
-grow : (n i x b : ℕ) → i < n → b < 256 → x < 256 ^ i → x * 256 + b < 256 ^ n
-grow n i x b hi hb hx = lt_of_lt_of_le (rw (pow-suc 256 i) (digits_lt hx hb)) (pow-le-pow_right (omega arith) hi)
+  pub four-bytes : length bs ≡ 4 → from_be_bytes w32 bs ≡ number bs
+  four-bytes e =
+      let byte : (i : ℕ) → i < 4 → number (take (suc i) bs) ≡ number (take i bs) * 256 + get_or bs i 0 = λ i h. one-more i (omega arith) in
+      let all : number (take 4 bs) ≡ number bs = rw (take_all 4 bs (omega arith)) in
+      omega (arith, none, byte 0 (omega arith), byte 1 (omega arith), byte 2 (omega arith), byte 3 (omega arith), all)
 
-module _ {n : ℕ} {s : List ℕ} {at i x : ℕ} where
-  -- while fewer than n bytes have been taken, one more fits the word
-  pub load_fits : (b : ℕ) → i < n → b < 256 → Loaded n s at i x → x * 256 + b < 256 ^ n
-  load_fits b h hb l = grow n i x b h hb l.below
-
-  pub load-more : {b : ℕ} → at + n ≤ length s → i < n → (b ≡ get_or s (at + i) 0) × (b < 256) → Loaded n s at i x
-      → Loaded n s at (i + 1) (x * 256 + b)
-  load-more {b} k h e l =
-      let inside : i < length (drop at s) = rw (length-drop at s) (omega arith) in
-      rw add-one
-      (record {
-        within = h;
-        is = rw (take-suc (drop at s) i 0 inside, number-snoc, get_or-drop at s i 0, ← e.0, ← l.is);
-        below = grow (suc i) i x b (omega arith) e.1 l.below;
-      })
-
-  pub load-all : n ≤ i → Loaded n s at i x → x ≡ number (take n (drop at s))
-  load-all h l =
-      let e : i ≡ n = omega arith in
-      rw e at l.is
+  pub eight-bytes : length bs ≡ 8 → from_be_bytes w64 bs ≡ number bs
+  eight-bytes e =
+      let byte : (i : ℕ) → i < 8 → number (take (suc i) bs) ≡ number (take i bs) * 256 + get_or bs i 0 = λ i h. one-more i (omega arith) in
+      let all : number (take 8 bs) ≡ number bs = rw (take_all 8 bs (omega arith)) in
+      omega (
+        arith,
+        none,
+        byte 0 (omega arith),
+        byte 1 (omega arith),
+        byte 2 (omega arith),
+        byte 3 (omega arith),
+        byte 4 (omega arith),
+        byte 5 (omega arith),
+        byte 6 (omega arith),
+        byte 7 (omega arith),
+        all,
+      )
 
 -- ---- a block
 

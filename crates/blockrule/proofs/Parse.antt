@@ -1,24 +1,20 @@
--- The whole blocks of a list of bytes: one after another, as the loop of `absorb32` and `absorb64` takes them, and in pieces.
+-- The whole blocks of a list of bytes: one after another, as the loop of `absorb` takes them, and in pieces.
 -- Main statement: `absorb-append`, that whole blocks may be taken in any pieces. A rest of less than a block is not looked at.
-use Prim.Native.Nat.{ℕ, zero, suc, ◌+◌, ◌-◌, ◌*◌, ◌≤◌, ◌<◌}
+use Prim.Native.Nat.{ℕ, zero, suc, ◌*◌, ◌≤◌, ◌<◌}
 use mathlib.Core.List.{List, [], ◌∷◌, ◌++◌, append-nil}
-use mathlib.Core.Path.{◌≡◌, refl}
+use mathlib.Core.Path.{◌≡◌}
 use native.Mathlib.Nat.{div-eq_of_lt, div-eq-sub-div, zero-div, mul-zero, suc-mul}
 use native.Mathlib.Numerals.{add-one}
 use native.Mathlib.Omega.{arith}
-use lib.ListN.{length, take, drop, length-append, length-take, length-drop}
-use lib.Seq.{take-append-le, drop-append-le, drop-drop}
+use lib.ListN.{length, take, drop, length-append, length-drop}
+use lib.Seq.{take-append-le, drop-append-le, take-append_seam, drop-append_seam}
 use Rattle.bigendian.specs.Words.{to_words}
 use Rattle.fips.specs.Bits.{pieces}
 use Rattle.fips.specs.Words.{Width, block_bytes}
-use Rattle.fips.specs.Block.{block, blocks}
+use Rattle.fips.specs.Block.{block}
 use Rattle.fips.specs.Constants.{chain, round_words}
 use Rattle.fips.specs.Code.ByteForm.{parse_bytes}
 use Rattle.blockrule.proofs.Blocks.{blocks-none, blocks-cons, blocks-append}
-
--- a part of a list within it is as long as it should be
-pub part-long : (s : List ℕ) (at n : ℕ) → at + n ≤ length s → n ≤ length (take (at + n - at) (drop at s))
-part-long s at n h = simp (length-take, length-drop) (omega arith)
 
 positive : (k n x : ℕ) → k * n ≡ suc x → 0 < n
 positive k zero x e = absurd (omega (arith, mul-zero k))
@@ -70,29 +66,17 @@ module _ (p : Width) where
       → chain p H (parse_bytes p (a ++ b)) ≡ chain p (chain p H (parse_bytes p a)) (parse_bytes p b)
   absorb-append k H a b e = rw (parse-append k a b e, blocks-append p (round_words p))
 
--- ---- the loop over blocks: what is left from `at` decides
+  -- ---- the loop over blocks: what is left decides
 
--- v is the chaining words after the blocks before `at`: from v on, what is left gives what all gives from H on
-pub record Absorbed (p : Width) (K H s v : List ℕ) (at : ℕ) : Type 0 where
-  pub within : at ≤ length s
-  pub left : blocks p K v (parse_bytes p (drop at s)) ≡ blocks p K H (parse_bytes p s)
+  -- a block m is taken from the front of what is left, and v becomes n
+  pub chain-more : (v m rest : List ℕ) {n : List ℕ} → length m ≡ block_bytes p → 0 < block_bytes p
+      → n ≡ block p (round_words p) v (to_words 16 p.bytes m)
+      → chain p n (parse_bytes p rest) ≡ chain p v (parse_bytes p (m ++ rest))
+  chain-more v m rest e z d =
+      let front : take (block_bytes p) (m ++ rest) ≡ m = rw (← e) (take-append_seam m rest) in
+      let behind : drop (block_bytes p) (m ++ rest) ≡ rest = rw (← e) (drop-append_seam m rest) in
+      rw (parse-cons (m ++ rest) z (rw (length-append m rest) (omega arith)), front, behind, blocks-cons p (round_words p), d)
 
-module _ {p : Width} {K H s : List ℕ} where
-  pub absorb-none : Absorbed p K H s H 0
-  absorb-none = record { within = omega arith; left = refl }
-
-  pub absorb-more : {v n : List ℕ} {at : ℕ} → 0 < block_bytes p → at + block_bytes p ≤ length s
-      → n ≡ block p K v (to_words 16 p.bytes (take (at + block_bytes p - at) (drop at s)))
-      → Absorbed p K H s v at → Absorbed p K H s n (at + block_bytes p)
-  absorb-more {v} {n} {at} z h d a =
-      let back : at + block_bytes p - at ≡ block_bytes p = omega arith in
-      let fits : block_bytes p ≤ length (drop at s) = rw (length-drop at s) (omega arith) in
-      record {
-        within = h;
-        left =
-            rw (d, back, ← (drop-drop (block_bytes p) at s), ← (blocks-cons p K), ← (parse-cons p (drop at s) z fits)) a.left;
-      }
-
-  pub absorb-all : {v : List ℕ} {at : ℕ} → length s - at < block_bytes p → Absorbed p K H s v at → v ≡ blocks p K H (parse_bytes p s)
-  absorb-all {v} {at} h a =
-      rw (parse-none p (drop at s) (rw (length-drop at s) h), blocks-none p K) at a.left
+  -- less than a block decides nothing more
+  pub chain-rest : (v rest : List ℕ) → length rest < block_bytes p → chain p v (parse_bytes p rest) ≡ v
+  chain-rest v rest h = rw (parse-none rest h, blocks-none p (round_words p))

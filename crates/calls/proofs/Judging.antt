@@ -4,25 +4,27 @@ use mathlib.Core.Bool.{true, false, not}
 use native.Mathlib.Omega.{arith}
 use mathlib.Core.List.{List, [], ◌∷◌, ◌++◌}
 use mathlib.Core.Path.{◌≡◌, refl, sym, ◌∙◌}
-use lib.Dec.{lt→ltb}
-use Rattle.answers.specs.declared.Answer.{Answer}
-use Rattle.answers.specs.Judged.{Test, ◌when◌, Judged, lent, first}
-use Rattle.answers.specs.Numbers.{number_of}
-use Rattle.answers.proofs.Outcome.{refused, done}
+use lib.Dec.{T}
+use Rattle.std.specs.Prelude.{Err}
+use Rattle.answers.specs.declared.Refusal.{Refusal}
+use Rattle.answers.specs.Judged.{Test, ◌when◌, Judged, lent, first, after}
+use Rattle.answers.specs.Numbers.{Answer, number_of, refusal_number}
+use Rattle.answers.proofs.Outcome.{refused, done, refusing-number}
 use Rattle.fips.specs.Editions.{known}
 use Rattle.slices.specs.AtFront.{at_front}
 use Rattle.halfread.specs.declared.HalfRead.{HalfRead}
-use Rattle.halfread.specs.State.{blank}
+use Rattle.halfread.specs.State.{blank, sound}
 use Rattle.halfread.specs.Steps.{opened, added, closed_digest, add_tests, close_tests}
 use Rattle.records.specs.Record.{record_of, save_tests, loaded, load_tests}
 use Rattle.bays.specs.Table.{bay_at, put_bay, laid_out}
-use Rattle.bays.specs.Bay.{bay_of, is_empty, empty_bay}
-use Rattle.calls.specs.Calls.{lay_out, opening, adding, closing, saving, loading, dropping, tests, leaves, told, tells}
+use Rattle.bays.specs.Bay.{bay_of, empty_bay}
+use Rattle.calls.specs.Calls.{lay_out, opening, adding, closing, saving, loading, dropping, tests, leaves, told, nothing_told, tells}
 use Rattle.calls.specs.Calls.{Outcome, Asks}
 use Rattle.bays.specs.Gate.{taken_tests, vacant, half_at, gate_tests, not_sound, occupied, layout_tests, free_tests, sound_tests}
-use Rattle.answers.proofs.Refusals.{stopped, went_on, part-refused, done_first, done-leaves, refused-leaves, judged-map}
+use Rattle.answers.proofs.Refusals.{refuses, stopped, went_on, part-refused, zero-first, zero-leaves, refused-leaves, judged-map}
+use Rattle.bays.proofs.Header.{Taken, taken-passed}
 use Rattle.bays.proofs.Refusals.{vacant-alone, first-vacant, held-judged}
-use Rattle.answers.proofs.Tests.{passed, first_on, first_off}
+use Rattle.answers.proofs.Tests.{refusing, passed, first_on, first_off}
 
 -- ---- lay out: the table's own outcome, and no output beside it
 
@@ -33,67 +35,84 @@ laying-out t n j = judged-map (λ (l : List ℕ). lent l []) j
 
 -- ---- stopped at the gate
 
-module _ (t : List ℕ) (i : ℕ) (r : Answer) (answered : number_of r ≡ first (gate_tests t i)) (refusal : 0 < number_of r) where
-  pub open-stopped : (e : ℕ) → Outcome t (opening i e) (number_of r) t []
-  unfolding tests
-  open-stopped e = stopped (gate_tests t i) _ answered refusal refl
+more : (e : Refusal) → 0 < refusal_number e
+more e = refuses {A = Unit} (Err e) e refl
 
-  pub load-stopped : (bytes : List ℕ) → Outcome t (loading i bytes) (number_of r) t []
+module _ (t : List ℕ) (i : ℕ) (e : Refusal) (answered : refusal_number e ≡ first (gate_tests t i)) where
+  pub open-stopped : (edition : ℕ) → Outcome t (opening i edition) (refusal_number e) t []
   unfolding tests
-  load-stopped bytes = stopped (gate_tests t i) _ answered refusal refl
+  open-stopped edition = stopped (gate_tests t i) _ answered (more e) refl
+
+  pub load-stopped : (bytes : List ℕ) → Outcome t (loading i bytes) (refusal_number e) t []
+  unfolding tests
+  load-stopped bytes = stopped (gate_tests t i) _ answered (more e) refl
 
 -- ---- stopped at the gate, or at a bay that is not taken
 
-module _ (t : List ℕ) (i : ℕ) (r : Answer) (answered : number_of r ≡ first (taken_tests t i)) (refusal : 0 < number_of r) where
+module _ (t : List ℕ) (i : ℕ) (e : Refusal) (answered : refusal_number e ≡ first (taken_tests t i)) where
   -- 6 is never first here, since an empty bay is sound
-  taken-first : (us : List Test) → first (gate_tests t i ++ (not_sound t i ∷ vacant t i ∷ us)) ≡ number_of r
+  taken-first : (us : List Test) → first (gate_tests t i ++ (not_sound t i ∷ vacant t i ∷ us)) ≡ refusal_number e
   taken-first us = go (first (gate_tests t i)) refl
     where
       vs : List Test
       vs = not_sound t i ∷ vacant t i ∷ us
 
-      go : (n : ℕ) → first (gate_tests t i) ≡ n → first (gate_tests t i ++ vs) ≡ number_of r
+      go : (n : ℕ) → first (gate_tests t i) ≡ n → first (gate_tests t i ++ vs) ≡ refusal_number e
       go zero z =
           let none = passed (gate_tests t i) tt z in
-          let own : first (vacant t i ∷ []) ≡ number_of r = sym (answered ∙ first_on (gate_tests t i) (vacant t i ∷ []) none) in
-          let e = vacant-alone (bay_at t i) (number_of r) refusal own in
-          first_on (gate_tests t i) vs none ∙ first-vacant (bay_at t i) us e.0 ∙ sym e.1
+          let own : first (vacant t i ∷ []) ≡ refusal_number e = sym (answered ∙ first_on (gate_tests t i) (vacant t i ∷ []) none) in
+          let empty = vacant-alone (bay_at t i) (refusal_number e) (more e) own in
+          first_on (gate_tests t i) vs none ∙ first-vacant (bay_at t i) us empty.0 ∙ sym empty.1
       go (suc n) z =
           first_off (gate_tests t i) vs (omega arith) ∙ sym (answered ∙ first_off (gate_tests t i) (vacant t i ∷ []) (omega arith))
 
   taken-stopped : {A : Type 0} {old new : A} (us : List Test) →
-      Judged (gate_tests t i ++ (not_sound t i ∷ vacant t i ∷ us)) old new (number_of r) old
-  taken-stopped us = refused (taken-first us) (lt→ltb 0 (number_of r) refusal) refl
+      Judged (gate_tests t i ++ (not_sound t i ∷ vacant t i ∷ us)) old new (refusal_number e) old
+  taken-stopped us = refused (taken-first us) (refusing-number e) refl
 
-  pub add-stopped : (piece : List ℕ) → Outcome t (adding i piece) (number_of r) t []
+  pub drop-stopped : Outcome t (dropping i) (refusal_number e) t []
   unfolding tests
-  add-stopped piece = taken-stopped _
+  drop-stopped = stopped (taken_tests t i) _ answered (more e) refl
 
-  pub close-stopped : (x b : ℕ) (out : List ℕ) → Outcome t (closing i x b out) (number_of r) t out
+-- the same of what the bay was asked for
+module _ (t : List ℕ) (i : ℕ) (e : Refusal) {h : HalfRead} (held : Judged (taken_tests t i) blank (half_at t i) (refusal_number e) h) where
+  pub add-stopped : (piece : List ℕ) → Outcome t (adding i piece) (refusal_number e) t []
   unfolding tests
-  close-stopped x b out = taken-stopped _
+  add-stopped piece = taken-stopped t i e held.answer _
 
-  pub save-stopped : (out : List ℕ) → Outcome t (saving i out) (number_of r) t out
+  pub close-stopped : (x b : ℕ) (out : List ℕ) → Outcome t (closing i x b out) (refusal_number e) t out
   unfolding tests
-  save-stopped out = taken-stopped _
+  close-stopped x b out = taken-stopped t i e held.answer _
 
-  pub drop-stopped : Outcome t (dropping i) (number_of r) t []
+  pub save-stopped : (out : List ℕ) → Outcome t (saving i out) (refusal_number e) t out
   unfolding tests
-  drop-stopped = stopped (taken_tests t i) _ answered refusal refl
+  save-stopped out = taken-stopped t i e held.answer _
 
 -- ---- past the gate
 
-module _ (t : List ℕ) (i : ℕ) (gate : first (gate_tests t i) ≡ 0) where
+-- the bay written, which asks the gate once more
+abbrev written : List ℕ → ℕ → List ℕ → List ℕ
+written t i b = after (first (gate_tests t i)) t (put_bay t i b)
+
+module _ (t : List ℕ) (i : ℕ) (gate : 0 ≡ first (gate_tests t i)) where
   past : {A : Type 0} {old new left : A} {n : ℕ} (us : List Test) → Judged us old new n left →
       Judged (gate_tests t i ++ us) old new n left
-  past us j = went_on (gate_tests t i) us tt gate j
+  past us j = went_on (gate_tests t i) us tt (sym gate) j
 
   -- open and load ask something of their own, and then whether the bay can be filled
   abbrev fill_tests : List Test
   fill_tests = not_sound t i ∷ occupied t i ∷ []
 
-  pub free-first : {n : ℕ} → n ≡ first (free_tests t i) → n ≡ first fill_tests
-  free-first e = e ∙ first_on (gate_tests t i) fill_tests (passed (gate_tests t i) tt gate)
+  free-first : {n : ℕ} → n ≡ first (free_tests t i) → n ≡ first fill_tests
+  free-first e = e ∙ first_on (gate_tests t i) fill_tests (passed (gate_tests t i) tt (sym gate))
+
+  module _ {A : Type 0} {old new : A} (ts : List Test) (own : T (refusing ts)) (none : first ts ≡ 0) where
+    fill-refused : (e : Refusal) → refusal_number e ≡ first (free_tests t i) →
+        Judged (gate_tests t i ++ (ts ++ fill_tests)) old new (refusal_number e) old
+    fill-refused e a = past _ (went_on ts fill_tests own none (refused (sym (free-first a)) (refusing-number e) refl))
+
+    filled : {left : A} → 0 ≡ first (free_tests t i) → left ≡ new → Judged (gate_tests t i ++ (ts ++ fill_tests)) old new 0 left
+    filled f l = past _ (went_on ts fill_tests own none (done (sym (free-first f)) l))
 
   -- ---- open
 
@@ -101,91 +120,89 @@ module _ (t : List ℕ) (i : ℕ) (gate : first (gate_tests t i) ≡ 0) where
   unfolding tests first
   open_unknown e k = past _ (refused (rw k) tt refl)
 
-  module _ (e : ℕ) (k : known e ≡ true) where
-    edition-known : first (5 when not (known e) ∷ []) ≡ 0
+  module _ (edition : ℕ) (k : known edition ≡ true) where
+    edition-known : first (5 when not (known edition) ∷ []) ≡ 0
     unfolding first
     edition-known = rw k
 
-    pub open-refused : (r : Answer) → number_of r ≡ first fill_tests → 0 < number_of r → Outcome t (opening i e) (number_of r) t []
+    pub open-refused : (e : Refusal) → refusal_number e ≡ first (free_tests t i) → Outcome t (opening i edition) (refusal_number e) t []
     unfolding tests
-    open-refused r a p =
-        past _ (went_on (5 when not (known e) ∷ []) fill_tests tt edition-known (refused (sym a) (lt→ltb 0 (number_of r) p) refl))
+    open-refused e a = fill-refused (5 when not (known edition) ∷ []) tt edition-known e a
 
-    pub opened-at : first fill_tests ≡ 0 → (left : List ℕ) → left ≡ put_bay t i (bay_of (opened e)) → Outcome t (opening i e) 0 left []
+    pub opened-at : 0 ≡ first (free_tests t i) → {h : HalfRead} {left : List ℕ} → h ≡ opened edition → left ≡ written t i (bay_of h) →
+        Outcome t (opening i edition) 0 left []
     unfolding tests leaves
-    opened-at f left l = past _ (went_on (5 when not (known e) ∷ []) fill_tests tt edition-known (done f (rw l)))
+    opened-at f is l = filled (5 when not (known edition) ∷ []) tt edition-known f (rw (l, ← gate, is))
 
   -- ---- load
 
-  module _ (bytes : List ℕ) (r : Answer) (h : HalfRead) (j : Judged (load_tests bytes) blank (loaded bytes) (number_of r) h) where
-    pub load-refused : 0 < number_of r → Outcome t (loading i bytes) (number_of r) t []
+  module _ (bytes : List ℕ) where
+    pub load-refused : (e : Refusal) {h : HalfRead} → Judged (load_tests bytes) blank (loaded bytes) (refusal_number e) h →
+        Outcome t (loading i bytes) (refusal_number e) t []
     unfolding tests load_tests
-    load-refused p = past _ (stopped (load_tests bytes) fill_tests j.answer p refl)
+    load-refused e j = past _ (stopped (load_tests bytes) fill_tests j.answer (more e) refl)
 
-    pub load-filled : r ≡ Answer.Done → (s : Answer) → number_of s ≡ first fill_tests → 0 < number_of s →
-        Outcome t (loading i bytes) (number_of s) t []
-    unfolding tests load_tests
-    load-filled d s a p =
-        past _ (went_on (load_tests bytes) fill_tests tt (done_first j d) (refused (sym a) (lt→ltb 0 (number_of s) p) refl))
+    module _ {h : HalfRead} (j : Judged (load_tests bytes) blank (loaded bytes) 0 h) where
+      pub load-filled : (e : Refusal) → refusal_number e ≡ first (free_tests t i) → Outcome t (loading i bytes) (refusal_number e) t []
+      unfolding tests load_tests
+      load-filled e a = fill-refused (load_tests bytes) tt (zero-first j refl) e a
 
-    pub loaded_at : r ≡ Answer.Done → first fill_tests ≡ 0 → (left : List ℕ) → left ≡ put_bay t i (bay_of h) →
-        Outcome t (loading i bytes) 0 left []
-    unfolding tests leaves load_tests
-    loaded_at d f left l =
-        past _ (went_on (load_tests bytes) fill_tests tt (done_first j d) (done f (rw (l, done-leaves j d))))
-
-  -- ---- add
-
-  module _ (piece : List ℕ) (e : is_empty (bay_at t i) ≡ false) (r : Answer) (h h' : HalfRead) (is : h ≡ half_at t i)
-      (j : Judged (add_tests h piece) h (added h piece) (number_of r) h') where
-    add-judged : Judged (add_tests (half_at t i) piece) (half_at t i) (added (half_at t i) piece) (number_of r) h'
-    add-judged = rw is at j
-
-    pub add-refused : 0 < number_of r → Outcome t (adding i piece) (number_of r) t []
-    unfolding tests add_tests
-    add-refused p = past _ (held-judged (bay_at t i) _ e (part-refused add-judged p refl))
-
-    pub added-at : r ≡ Answer.Done → (left : List ℕ) → left ≡ put_bay t i (bay_of h') → Outcome t (adding i piece) 0 left []
-    unfolding tests leaves add_tests
-    added-at d left l =
-        past _ (held-judged (bay_at t i) _ e (done (done_first add-judged d) (rw (l, done-leaves add-judged d))))
-
-  -- ---- close
-
-  module _ (x b : ℕ) (out : List ℕ) where
-    module _ (e : is_empty (bay_at t i) ≡ false) (r : Answer) (h : HalfRead) (out' : List ℕ) (is : h ≡ half_at t i)
-        (j : Judged (close_tests h x b out) out (at_front (closed_digest h x b) out) (number_of r) out') where
-      close-judged : Judged (close_tests (half_at t i) x b out) out (at_front (closed_digest (half_at t i) x b) out) (number_of r) out'
-      close-judged = rw is at j
-
-      pub close-refused : 0 < number_of r → Outcome t (closing i x b out) (number_of r) t out'
-      unfolding tests close_tests
-      close-refused p = past _ (held-judged (bay_at t i) _ e (part-refused close-judged p (rw (refused-leaves close-judged p))))
-
-      pub closed_at : r ≡ Answer.Done → (left : List ℕ) → left ≡ put_bay t i empty_bay →
-          Outcome t (closing i x b out) 0 left out'
-      unfolding tests leaves close_tests
-      closed_at d left l =
-          past _ (held-judged (bay_at t i) _ e (done (done_first close-judged d) (rw (l, done-leaves close-judged d))))
-
-  -- ---- save
-
-  module _ (out : List ℕ) where
-    save-judged : (r : Answer) (h : HalfRead) (out' : List ℕ) → h ≡ half_at t i →
-        Judged (save_tests h out) out (at_front (record_of h) out) (number_of r) out' →
-        Judged (save_tests (half_at t i) out) out (at_front (record_of (half_at t i)) out) (number_of r) out'
-    save-judged r h out' is j = rw is at j
-
-    pub save-held : is_empty (bay_at t i) ≡ false → (r : Answer) (h : HalfRead) (out' : List ℕ) → h ≡ half_at t i →
-        Judged (save_tests h out) out (at_front (record_of h) out) (number_of r) out' → Outcome t (saving i out) (number_of r) t out'
-    unfolding tests leaves save_tests
-    save-held e r h out' is j = past _ (held-judged (bay_at t i) _ e (judged-map (lent t) (save-judged r h out' is j)))
+      pub loaded_at : 0 ≡ first (free_tests t i) → {left : List ℕ} → left ≡ written t i (bay_of h) → Outcome t (loading i bytes) 0 left []
+      unfolding tests leaves load_tests
+      loaded_at f l = filled (load_tests bytes) tt (zero-first j refl) f (rw (l, ← gate, zero-leaves j refl))
 
   -- ---- drop
 
-  pub dropped : is_empty (bay_at t i) ≡ false → (left : List ℕ) → left ≡ put_bay t i empty_bay → Outcome t (dropping i) 0 left []
-  unfolding tests leaves first
-  dropped e left l = past _ (done (rw e) (rw l))
+  pub dropped : 0 ≡ first (taken_tests t i) → {left : List ℕ} → left ≡ written t i empty_bay → Outcome t (dropping i) 0 left []
+  unfolding tests leaves
+  dropped a l = done (sym a) (rw (l, ← gate))
+
+-- ---- past the gate, with what is held in the bay
+
+module _ (t : List ℕ) (i : ℕ) {h : HalfRead} (held : Judged (taken_tests t i) blank (half_at t i) 0 h) where
+  there : Taken t i
+  there = taken-passed t i (zero-first held refl)
+
+  is : h ≡ half_at t i
+  is = zero-leaves held refl
+
+  -- the step's own tests behind those of the bay
+  behind : {A : Type 0} {old new left : A} {n : ℕ} (us : List Test) → Judged (6 when not (sound (half_at t i)) ∷ us) old new n left →
+      Judged (gate_tests t i ++ (not_sound t i ∷ vacant t i ∷ us)) old new n left
+  behind us j = past t i (sym there.gate) _ (held-judged (bay_at t i) us there.full j)
+
+  -- ---- add
+
+  module _ (piece : List ℕ) where
+    pub add-refused : (e : Refusal) {left : HalfRead} → Judged (add_tests h piece) h (added h piece) (refusal_number e) left →
+        Outcome t (adding i piece) (refusal_number e) t []
+    unfolding tests add_tests
+    add-refused e j = behind _ (part-refused (rw is at j) (more e) refl)
+
+    pub added-at : {h' : HalfRead} → Judged (add_tests h piece) h (added h piece) 0 h' → {left : List ℕ} → left ≡ written t i (bay_of h') →
+        Outcome t (adding i piece) 0 left []
+    unfolding tests leaves add_tests
+    added-at j l = behind _ (done (zero-first (rw is at j) refl) (rw (l, there.gate, zero-leaves (rw is at j) refl)))
+
+  -- ---- close
+
+  module _ (x b : ℕ) (out : List ℕ) {out' : List ℕ} where
+    pub close-refused : (e : Refusal) → Judged (close_tests h x b out) out (at_front (closed_digest h x b) out) (refusal_number e) out' →
+        Outcome t (closing i x b out) (refusal_number e) t out'
+    unfolding tests close_tests
+    close-refused e j = behind _ (part-refused (rw is at j) (more e) (rw (refused-leaves j (more e))))
+
+    pub closed_at : Judged (close_tests h x b out) out (at_front (closed_digest h x b) out) 0 out' → {left : List ℕ} →
+        left ≡ written t i empty_bay → Outcome t (closing i x b out) 0 left out'
+    unfolding tests leaves close_tests
+    closed_at j l = behind _ (done (zero-first (rw is at j) refl) (rw (l, there.gate, zero-leaves (rw is at j) refl)))
+
+  -- ---- save
+
+  pub save-held : (out : List ℕ) (r : Answer) {out' : List ℕ} →
+      Judged (save_tests h out) out (at_front (record_of h) out) (number_of r) out' → Outcome t (saving i out) (number_of r) t out'
+  unfolding tests leaves save_tests
+  save-held out r j = behind _ (judged-map (lent t) (rw is at j))
 
 -- ---- ask: what a sound bay holds, and nothing where it is refused
 
@@ -193,3 +210,8 @@ pub asked : (t : List ℕ) (i : ℕ) {n : ℕ} {h : HalfRead} → Judged (sound_
     Asks t i n (told h.edition h.count)
 unfolding tests tells blank
 asked t i j = judged-map (λ (h : HalfRead). told h.edition h.count) j
+
+pub ask-refused : (t : List ℕ) (i : ℕ) (e : Refusal) → Judged (sound_tests t i) blank (half_at t i) (refusal_number e) blank →
+    Asks t i (refusal_number e) nothing_told
+unfolding blank
+ask-refused t i e j = asked t i j

@@ -10,7 +10,7 @@ use lib.ListN.{length, take, drop}
 use lib.Seq.{take-append_seam}
 use borrow.Author.Tests.{not-false, leb-false, ltb-false}
 use Rattle.contracts.specs.Says.{Made, exit}
-use Rattle.answers.specs.declared.Answer.{Answer}
+use Rattle.std.specs.Prelude.{Ok}
 use Rattle.answers.specs.Judged.{Lent, first}
 use Rattle.answers.specs.Numbers.{number_of}
 use Rattle.answers.proofs.Refusals.{done_first, done-leaves}
@@ -68,18 +68,18 @@ module _ (t : List ℕ) (i : ℕ) (out : List ℕ) (words : Below (2 ^ 64) t) (z
 abbrev saved_of : Made save.ended save-reads.Learnt → List ℕ
 saved_of s = take (record_length (half_at s.args.0.now s.args.1.0)) (exit s).1.1.0.now
 
-kept : (s : Made save.ended save-reads.Learnt) → s.result ≡ Answer.Done → Saved s.args.0.now s.args.1.0 s.args.1.1.0.now
+kept : (s : Made save.ended save-reads.Learnt) → s.result ≡ Ok tt → Saved s.args.0.now s.args.1.0 s.args.1.1.0.now
 kept s d = saved s.args.0.now s.args.1.0 s.args.1.1.0.now s.learnt.1.0 (done_first s.learnt.0 d)
 
-saved-record : (s : Made save.ended save-reads.Learnt) → s.result ≡ Answer.Done →
+saved-record : (s : Made save.ended save-reads.Learnt) → s.result ≡ Ok tt →
     saved_of s ≡ record_of (half_at s.args.0.now s.args.1.0)
 unfolding leaves
 saved-record s d =
     ap (take (record_length (half_at s.args.0.now s.args.1.0))) (ap (λ (x : Lent). x.output) (done-leaves s.learnt.0 d))
     ∙ (kept s d).front
 
-pub saved-loaded : (s : Made save.ended save-reads.Learnt) → s.result ≡ Answer.Done →
-    (l : Made load.ended load-reads.Learnt) → l.result ≡ Answer.Done → l.args.1.1.0.now ≡ saved_of s →
+pub saved-loaded : (s : Made save.ended save-reads.Learnt) → s.result ≡ Ok tt →
+    (l : Made load.ended load-reads.Learnt) → l.result ≡ Ok tt → l.args.1.1.0.now ≡ saved_of s →
     bay_at (exit l).0.now l.args.1.0 ≡ bay_at s.args.0.now s.args.1.0
 unfolding tests leaves
 saved-loaded s ds l dl same =
@@ -94,7 +94,7 @@ saved-loaded s ds l dl same =
     ∙ (kept s ds).back
 
 -- and it is never refused as no record, 10
-pub saved-taken : (s : Made save.ended save-reads.Learnt) → s.result ≡ Answer.Done →
+pub saved-taken : (s : Made save.ended save-reads.Learnt) → s.result ≡ Ok tt →
     (l : Made load.ended load-reads.Learnt) → l.args.1.1.0.now ≡ saved_of s → number_of l.result ≡ 10 → ⊥
 unfolding tests first
 saved-taken s ds l same ten =

@@ -1,6 +1,7 @@
 -- The calls on the table: which refuses when, and what it leaves. SPEC, "Calls and their numbers".
 -- `Outcome` and `Asks` say what a call did; `run` is one call as a value: its answer, what ask tells, table and output after it.
-use Rattle.std.specs.Prelude.{ℕ, ◌^◌, ◌<◌, not, List, [], ◌∷◌, ◌++◌, ltb, length}
+use Rattle.std.specs.Prelude.{ℕ, ◌^◌, ◌<◌, not, List, [], ◌∷◌, ◌++◌, ltb, length, Result, Ok, Err}
+use Rattle.answers.specs.declared.Refusal.{Refusal}
 use Rattle.answers.specs.Judged.{Test, ◌when◌, first, after, Lent, lent, Judged}
 use Rattle.fips.specs.Editions.{known, digest_bytes}
 use Rattle.slices.specs.AtFront.{at_front}
@@ -9,6 +10,7 @@ use Rattle.dwsha2.specs.Limit.{too_long}
 use Rattle.dwsha2.specs.Closing.{closing_fits}
 use Rattle.halfread.specs.Steps.{opened, added, closed_digest}
 use Rattle.records.specs.Record.{record_of, record_length, loaded, is_record}
+use Rattle.calls.specs.declared.Asked.{Asked}
 use Rattle.bays.specs.Table.{put_bay, laid_out}
 use Rattle.bays.specs.Bay.{bay_of, empty_bay}
 use Rattle.bays.specs.Gate.{layout_tests, half_at, gate_tests, not_sound, occupied, vacant, taken_tests, sound_tests}
@@ -34,6 +36,11 @@ told e c = record { edition = e; count = c }
 
 abbrev pub nothing_told : Told
 nothing_told = told 0 0
+
+-- what is told by a call of ask; a refusal tells nothing
+abbrev pub told_of : Result Asked Refusal → Told
+told_of (Ok asked) = told asked.edition asked.count
+told_of (Err refusal) = nothing_told
 
 -- the output that is lent with the call
 abbrev pub output_of : Call → List ℕ

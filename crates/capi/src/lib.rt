@@ -13,8 +13,6 @@ ghost use Rattle.streamwords.specs.Calls.{Begins, LendsPiece, Adds, Roots};
 ghost use Rattle.tree.specs.Tree.{Trees};
 ghost use Rattle.writer.specs.Writing;
 
-use lists::Found;
-
 pub fn dw_hash(edition: u64, message: &[u8], closing: u8, bits: u64, out: &mut [u8]) -> u64
     ensures { Hashes edition message.now closing bits out.old result out.new }
 {
@@ -75,11 +73,18 @@ pub fn dw_ask(table: &[u64], bay: u64, edition: &mut u64, count: &mut u64) -> u6
     ensures asks { Asks table.now bay result (told edition.new count.new) }
     ensures lends { Lends table.now (Call.asking bay) }
 {
-    let asked = calls::ask(table, bay);
-    let answer = asked.answer;
-    *edition = asked.edition;
-    *count = asked.count;
-    answers::number(answer)
+    match calls::ask(table, bay) {
+        Ok(asked) => {
+            *edition = asked.edition;
+            *count = asked.count;
+            0
+        }
+        Err(refusal) => {
+            *edition = 0;
+            *count = 0;
+            u64::from(refusal)
+        }
+    }
 }
 
 pub fn dw_tree(map: &[u8], out: &mut [u8]) -> u64
@@ -156,20 +161,15 @@ pub fn dw_lookup(list: &[u8], name: &[u8], at: &mut usize, len: &mut usize) -> u
     ensures { Finds list.now name.now result (spot at.new len.new) }
 {
     match lists::find(list, name) {
-        Found::At { start, len: count } => {
-            *at = start;
-            *len = count;
+        Ok(found) => {
+            *at = found.start;
+            *len = found.len;
             0
         }
-        Found::NotListed => {
+        Err(refusal) => {
             *at = 0;
             *len = 0;
-            13
-        }
-        Found::NotAList => {
-            *at = 0;
-            *len = 0;
-            12
+            u64::from(refusal)
         }
     }
 }

@@ -4,7 +4,7 @@ use Prim.Native.Nat.{ℕ}
 use mathlib.Core.List.{List}
 use Rattle.contracts.specs.Says.{Settles}
 use Rattle.contracts.proofs.Values.{value-settled}
-use Rattle.answers.specs.declared.Answer.{Answer}
+use Rattle.answers.specs.Numbers.{Answer}
 use Rattle.answers.proofs.Outcome.{answer-both}
 use Rattle.dwsha2.specs.contracts.hash.hash as hash
 use Rattle.dwsha2.proofs.hash.hash.Reads as hash-reads

@@ -4,7 +4,7 @@ use Prim.Native.Nat.{◌<◌}
 use mathlib.Core.Path.{◌≡◌}
 use Rattle.contracts.specs.Says.{Made, exit}
 use Rattle.answers.specs.Numbers.{number_of}
-use Rattle.answers.specs.declared.Answer.{Answer}
+use Rattle.std.specs.Prelude.{Ok}
 use Rattle.answers.proofs.Refusals.{done-leaves, refused-leaves}
 use Rattle.slices.specs.AtFront.{at_front}
 use Rattle.fips.specs.Editions.{digest}
@@ -13,7 +13,7 @@ use Rattle.dwsha2.specs.Hash.{hashed}
 use Rattle.dwsha2.specs.contracts.hash.hash as hash
 use Rattle.dwsha2.proofs.hash.hash.Reads as hash-reads
 
-pub hash-standard : (m : Made hash.ended hash-reads.Learnt) → m.result ≡ Answer.Done →
+pub hash-standard : (m : Made hash.ended hash-reads.Learnt) → m.result ≡ Ok tt →
     (exit m).1.1.1.1.0.now
     ≡ at_front (digest m.args.0 (message m.args.1.0.now m.args.1.1.0 m.args.1.1.1.0)) m.args.1.1.1.1.0.now
 unfolding hashed

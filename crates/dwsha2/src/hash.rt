@@ -7,7 +7,7 @@ use crate::finish::finish;
 use crate::hashing::write_digest;
 use crate::limit::too_long;
 use crate::starting::starting_words;
-use answers::Answer;
+use answers::{Answer, Refusal};
 
 // The digest of the message and the upper bits of the closing byte, at the front of the output.
 pub fn hash(edition: u64, message: &[u8], closing: u8, bits: u64, out: &mut [u8]) -> Answer
@@ -15,19 +15,19 @@ pub fn hash(edition: u64, message: &[u8], closing: u8, bits: u64, out: &mut [u8]
 {
     let size = fips::lookup::digest_bytes(edition);
     if size == 0 {
-        return Answer::NoSuchEdition;
+        return Err(Refusal::NoSuchEdition);
     }
     if too_long(edition, 0, message.len()) {
-        return Answer::TooLong;
+        return Err(Refusal::TooLong);
     }
     if !closing_fits(closing, bits) {
-        return Answer::BadClosing;
+        return Err(Refusal::BadClosing);
     }
     if out.len() < size {
-        return Answer::ShortOutput;
+        return Err(Refusal::ShortOutput);
     }
     let start = starting_words(edition);
     let words = finish(edition, start, message.len() as u64, message, closing, bits);
     write_digest(edition, words, out);
-    Answer::Done
+    Ok(())
 }

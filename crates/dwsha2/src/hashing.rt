@@ -5,34 +5,17 @@ ghost use Rattle.fips.specs.Words.{w32};
 ghost use Rattle.slices.specs.AtFront.{at_front};
 ghost use Rattle.dwsha2.specs.Code.Hashing.{fit, absorbed, digest_from};
 
+#[tactic(auto, unfolding(crate::specs::Code::Hashing::fit))]
 fn narrowed(words: [u64; 8]) -> [u32; 8]
     ensures { result ≡ fit w32 words }
 {
-    let mut h = [0u32; 8];
-    let mut i = 0;
-    while i < 8 {
-        h[i] = (words[i] % 0x1_0000_0000) as u32;
-        i += 1;
-    }
-    h
-}
-
-fn wide(word: u32) -> u64
-    ensures { result ≡ word }
-{
-    word as u64
+    words.map(|word| (word % 0x1_0000_0000) as u32)
 }
 
 fn widened(words: [u32; 8]) -> [u64; 8]
     ensures { result ≡ words }
 {
-    let mut h = [0u64; 8];
-    let mut k = 0;
-    while k < 8 {
-        h[k] = wide(words[k]);
-        k += 1;
-    }
-    h
+    words.map(u64::from)
 }
 
 // The chaining words after every whole block of the bytes, which are read where they lie.
@@ -40,9 +23,9 @@ pub fn absorb(edition: u64, words: [u64; 8], bytes: &[u8]) -> [u64; 8]
     ensures { result ≡ absorbed edition words bytes.now }
 {
     if fips::lookup::narrow(edition) {
-        widened(block32::absorb32(narrowed(words), bytes))
+        widened(block::absorb32(narrowed(words), bytes))
     } else {
-        block64::absorb64(words, bytes)
+        block::absorb64(words, bytes)
     }
 }
 

@@ -1,4 +1,4 @@
-// Layer 1, hashing: what the layers above build on for every edition, and hash at once. The block functions stand below, a crate each.
+// Layer 1, hashing: what the layers above build on for every edition, and hash at once. The block rule stands below, in a crate of its own.
 #![tactic(auto)]
 
 pub mod limit; // limit.rt: the length limit

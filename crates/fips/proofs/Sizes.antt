@@ -1,5 +1,5 @@
--- What the edition lookup answers, and what every crate above may know of an edition: laws of specs/Sizes.antt. Number and sizes settle the
--- case that is answered, `sizes-same`, and it is `sizes_of`: `sized-is`, `is-sized`.
+-- What the edition lookup answers, and what every crate above may know of an edition: laws of specs/Sizes.antt. Number and sizes settle
+-- what is answered, `sizes-same`, and it is `sizes_of`: `sized-is`, `is-sized`.
 -- An edition's number is below 2^16, `known_small`; every number has one of two widths, `width-of`; a block has some bytes, at most 128,
 -- `block-some` and `block_within`.
 use Prim.Native.Nat.{ℕ, ◌^◌, ◌≤◌, ◌<◌}
@@ -9,6 +9,7 @@ use mathlib.Core.Logic.{⊎_elim}
 use mathlib.Core.Path.{◌≡◌, refl, sym, ap, subst, ◌∙◌}
 use native.Mathlib.Omega.{arith}
 use lib.Dec.{eqb}
+use Rattle.std.specs.Prelude.{Option, Some, None, is_some}
 use Rattle.answers.proofs.Outcome.{outcome-settled}
 use Rattle.answers.specs.Judged.{◌when◌, first, Judged}
 use Rattle.fips.specs.declared.lookup.EditionSizes.{EditionSizes}
@@ -19,52 +20,64 @@ use Rattle.fips.proofs.Editions.{within-known, width-cases, width_some, edition-
 
 -- ---- the lookup
 
--- the case that it answers
-unfoldable pub sizes_of : ℕ → EditionSizes
-sizes_of e =
-    cond (known e) (EditionSizes.Known (word (width e)) (block_bytes (width e)) (digest_bytes e)) EditionSizes.Unknown
+abbrev the_sizes : ℕ → ℕ → ℕ → EditionSizes
+the_sizes w b d = record { word = w; block = b; digest = d }
+
+-- what it answers
+unfoldable pub sizes_of : ℕ → Option EditionSizes
+sizes_of e = cond (known e) (Some (the_sizes (word (width e)) (block_bytes (width e)) (digest_bytes e))) None
 
 sized_of : (e : ℕ) → Sized e (sizes_number (sizes_of e)) (sizes_told (sizes_of e))
 unfolding sizes_of first
 sized_of e = go (known e)
   where
     go : (k : Bool) →
-        let r = cond k (EditionSizes.Known (word (width e)) (block_bytes (width e)) (digest_bytes e)) EditionSizes.Unknown in
+        let r = cond k (Some (the_sizes (word (width e)) (block_bytes (width e)) (digest_bytes e))) None in
         Judged (5 when not k ∷ []) no_sizes (sizes (word (width e)) (block_bytes (width e)) (digest_bytes e)) (sizes_number r)
         (sizes_told r)
     go true = record { answer = refl; leaves = refl }
     go false = record { answer = refl; leaves = refl }
 
-pub is-sized : (e : ℕ) (r : EditionSizes) → r ≡ sizes_of e → Sized e (sizes_number r) (sizes_told r)
-is-sized e r p = subst (λ (x : EditionSizes). Sized e (sizes_number x) (sizes_told x)) (sym p) (sized_of e)
+pub is-sized : (e : ℕ) (r : Option EditionSizes) → r ≡ sizes_of e → Sized e (sizes_number r) (sizes_told r)
+is-sized e r p = subst (λ (x : Option EditionSizes). Sized e (sizes_number x) (sizes_told x)) (sym p) (sized_of e)
 
--- number and sizes settle the case
-same_case : (r s : EditionSizes) → sizes_number r ≡ sizes_number s → sizes_told r ≡ sizes_told s → r ≡ s
-same_case (EditionSizes.Known w b d) (EditionSizes.Known x c g) n t = λ i. EditionSizes.Known (t i).word (t i).block (t i).digest
-same_case (EditionSizes.Known w b d) EditionSizes.Unknown n t = absurd (omega arith)
-same_case EditionSizes.Unknown (EditionSizes.Known w b d) n t = absurd (omega arith)
-same_case EditionSizes.Unknown EditionSizes.Unknown n t = refl
+-- number and sizes settle it
+same_case : (r s : Option EditionSizes) → sizes_number r ≡ sizes_number s → sizes_told r ≡ sizes_told s → r ≡ s
+same_case (Some r) (Some s) n t = λ i. Some (the_sizes (t i).word (t i).block (t i).digest)
+same_case (Some r) None n t = absurd (omega arith)
+same_case None (Some s) n t = absurd (omega arith)
+same_case None None n t = refl
 
-pub sizes-same : (e : ℕ) (r s : EditionSizes) → Sized e (sizes_number r) (sizes_told r) → Sized e (sizes_number s) (sizes_told s) → r ≡ s
+pub sizes-same : (e : ℕ) (r s : Option EditionSizes) → Sized e (sizes_number r) (sizes_told r) → Sized e (sizes_number s) (sizes_told s) →
+    r ≡ s
 sizes-same e r s j k = let o = outcome-settled j k in same_case r s o.0 o.1
 
-pub sized-is : (e : ℕ) (r : EditionSizes) → Sized e (sizes_number r) (sizes_told r) → r ≡ sizes_of e
+pub sized-is : (e : ℕ) (r : Option EditionSizes) → Sized e (sizes_number r) (sizes_told r) → r ≡ sizes_of e
 sized-is e r j = sizes-same e r (sizes_of e) j (sized_of e)
 
+pub known-told : (e : ℕ) (r : Option EditionSizes) → Sized e (sizes_number r) (sizes_told r) → is_some r ≡ known e
+unfolding sizes_of
+known-told e r j = ap is_some (sized-is e r j) ∙ go (known e)
+  where
+    go : (k : Bool) → is_some (cond k (Some (the_sizes (word (width e)) (block_bytes (width e)) (digest_bytes e))) None) ≡ k
+    go true = refl
+    go false = refl
+
 -- what the lookup says of an edition, and that it refuses the others
-pub sizes-known : (e : ℕ) {r : EditionSizes} {w b d : ℕ} → Sized e (sizes_number r) (sizes_told r) → r ≡ EditionSizes.Known w b d →
-    (known e ≡ true) × (w ≡ word (width e)) × (b ≡ block_bytes (width e)) × (d ≡ digest_bytes e)
+pub sizes-known : (e : ℕ) {r : Option EditionSizes} {s : EditionSizes} → Sized e (sizes_number r) (sizes_told r) → r ≡ Some s →
+    (known e ≡ true) × (s.word ≡ word (width e)) × (s.block ≡ block_bytes (width e)) × (s.digest ≡ digest_bytes e)
 unfolding first
-sizes-known e {w = w} {b = b} {d = d} j p =
-    go (known e) refl (subst (λ (x : EditionSizes). Sized e (sizes_number x) (sizes_told x)) p j)
+sizes-known e {s = s} j p =
+    go (known e) refl (subst (λ (x : Option EditionSizes). Sized e (sizes_number x) (sizes_told x)) p j)
   where
     go : (k : Bool) → known e ≡ k →
-        Judged (5 when not k ∷ []) no_sizes (sizes (word (width e)) (block_bytes (width e)) (digest_bytes e)) 0 (sizes w b d) →
-        (known e ≡ true) × (w ≡ word (width e)) × (b ≡ block_bytes (width e)) × (d ≡ digest_bytes e)
+        Judged (5 when not k ∷ []) no_sizes (sizes (word (width e)) (block_bytes (width e)) (digest_bytes e)) 0
+        (sizes s.word s.block s.digest) →
+        (known e ≡ true) × (s.word ≡ word (width e)) × (s.block ≡ block_bytes (width e)) × (s.digest ≡ digest_bytes e)
     go true q i = let t = i.leaves in (q, ap (λ (x : Sizes). x.word) t, ap (λ (x : Sizes). x.block) t, ap (λ (x : Sizes). x.digest) t)
     go false q i = absurd (omega (arith, i.answer))
 
-pub sizes-unknown : (e : ℕ) {r : EditionSizes} → Sized e (sizes_number r) (sizes_told r) → r ≡ EditionSizes.Unknown → known e ≡ false
+pub sizes-unknown : (e : ℕ) {r : Option EditionSizes} → Sized e (sizes_number r) (sizes_told r) → r ≡ None → known e ≡ false
 unfolding first
 sizes-unknown e j p = go (known e) refl (ap sizes_number (sym p) ∙ j.answer)
   where

@@ -1,8 +1,7 @@
 -- What the edition lookup answers: SPEC, "Editions": the sizes of an edition, or 5 of SPEC, "Calls and their numbers", where there is none.
 -- `Sized e n told` says that the lookup of e answers the number n and tells those sizes; `sizes_number` and `sizes_told` have the number
--- and
--- the sizes of each case of the enum that it answers with.
-use Rattle.std.specs.Prelude.{ℕ, Bool, true, false, not, [], ◌∷◌, eqb}
+-- and the sizes of what it answers with.
+use Rattle.std.specs.Prelude.{ℕ, Bool, true, false, not, [], ◌∷◌, eqb, Option, Some, None}
 use Rattle.answers.specs.Judged.{◌when◌, Judged}
 use Rattle.fips.specs.declared.lookup.EditionSizes.{EditionSizes}
 use Rattle.fips.specs.Words.{Width, w32, w64, word, block_bytes}
@@ -20,15 +19,15 @@ sizes w b d = record { word = w; block = b; digest = d }
 abbrev pub no_sizes : Sizes
 no_sizes = sizes 0 0 0
 
--- ---- the cases of the answer
+-- ---- the answer
 
-abbrev pub sizes_number : EditionSizes → ℕ
-sizes_number (EditionSizes.Known w b d) = 0
-sizes_number EditionSizes.Unknown = 5
+abbrev pub sizes_number : Option EditionSizes → ℕ
+sizes_number (Some s) = 0
+sizes_number None = 5
 
-abbrev pub sizes_told : EditionSizes → Sizes
-sizes_told (EditionSizes.Known w b d) = sizes w b d
-sizes_told EditionSizes.Unknown = no_sizes
+abbrev pub sizes_told : Option EditionSizes → Sizes
+sizes_told (Some s) = sizes s.word s.block s.digest
+sizes_told None = no_sizes
 
 -- ---- the lookup
 

@@ -5,63 +5,57 @@ ghost use Rattle.fips.specs.Words.{block_bytes};
 ghost use Rattle.fips.specs.Editions.{known, width, digest_bytes};
 ghost use Rattle.fips.specs.Sizes.{sizes_number, sizes_told, Sized, is_narrow, width_of};
 
-// An edition's sizes, or that no edition has the number: 5.
-#[derive(Clone, Copy)]
-pub enum EditionSizes {
-    Known { word: u64, block: u64, digest: u64 },
-    Unknown,
+// An edition's sizes: the bits of a word, the bytes of a block and of a digest.
+#[derive(Clone, Copy, Debug, PartialEq, Eq)]
+pub struct EditionSizes {
+    pub word: u64,
+    pub block: u64,
+    pub digest: u64,
 }
 
-// SPEC, "Editions": the bits of a word, the bytes of a block and of a digest.
-pub fn sizes(edition: u64) -> EditionSizes
+// SPEC, "Editions"; there are none where no edition has the number: 5.
+pub fn sizes(edition: u64) -> Option<EditionSizes>
     ensures { Sized edition (sizes_number result) (sizes_told result) }
 {
     match edition {
-        1 => EditionSizes::Known {
+        1 => Some(EditionSizes {
             word: 32,
             block: 64,
             digest: 28,
-        },
-        2 => EditionSizes::Known {
+        }),
+        2 => Some(EditionSizes {
             word: 32,
             block: 64,
             digest: 32,
-        },
-        3 => EditionSizes::Known {
+        }),
+        3 => Some(EditionSizes {
             word: 64,
             block: 128,
             digest: 48,
-        },
-        4 => EditionSizes::Known {
+        }),
+        4 => Some(EditionSizes {
             word: 64,
             block: 128,
             digest: 64,
-        },
-        5 => EditionSizes::Known {
+        }),
+        5 => Some(EditionSizes {
             word: 64,
             block: 128,
             digest: 28,
-        },
-        6 => EditionSizes::Known {
+        }),
+        6 => Some(EditionSizes {
             word: 64,
             block: 128,
             digest: 32,
-        },
-        _ => EditionSizes::Unknown,
+        }),
+        _ => None,
     }
 }
 
 pub fn known(edition: u64) -> bool
     ensures { result ≡ known edition }
 {
-    match sizes(edition) {
-        EditionSizes::Known {
-            word: _,
-            block: _,
-            digest: _,
-        } => true,
-        EditionSizes::Unknown => false,
-    }
+    sizes(edition).is_some()
 }
 
 // Whether the edition's words have 32 bits.
@@ -69,12 +63,8 @@ pub fn narrow(edition: u64) -> bool
     ensures { result ≡ is_narrow edition }
 {
     match sizes(edition) {
-        EditionSizes::Known {
-            word,
-            block: _,
-            digest: _,
-        } => word == 32,
-        EditionSizes::Unknown => false,
+        Some(sizes) => sizes.word == 32,
+        None => false,
     }
 }
 
@@ -83,12 +73,8 @@ pub fn digest_bytes(edition: u64) -> usize
     ensures { result ≡ digest_bytes edition }
 {
     match sizes(edition) {
-        EditionSizes::Known {
-            word: _,
-            block: _,
-            digest,
-        } => digest as usize,
-        EditionSizes::Unknown => 0,
+        Some(sizes) => sizes.digest as usize,
+        None => 0,
     }
 }
 

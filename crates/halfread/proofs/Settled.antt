@@ -2,13 +2,10 @@
 -- `Learnt` is that contract, made from src. SPEC, "How much each call says".
 use Prim.Native.Nat.{ℕ}
 use mathlib.Core.List.{List}
-use mathlib.Core.Path.{ap}
 use Rattle.contracts.specs.Says.{Settles}
 use Rattle.contracts.proofs.Values.{value-settled}
-use Rattle.answers.specs.declared.Answer.{Answer}
-use Rattle.answers.proofs.Outcome.{answer-both}
-use Rattle.halfread.specs.declared.HalfRead.{HalfRead}
-use Rattle.halfread.specs.declared.add.Added.{Added}
+use Rattle.answers.specs.Numbers.{Answer}
+use Rattle.answers.proofs.Outcome.{answer-both, handed-settled}
 use Rattle.halfread.specs.contracts.state.«open» as opn
 use Rattle.halfread.proofs.state.«open».Reads as open-reads
 use Rattle.halfread.specs.contracts.state.blank as blank
@@ -26,10 +23,6 @@ use Rattle.halfread.proofs.tail.tail_length.Reads as tail-length-reads
 use Rattle.halfread.specs.contracts.tail.padded as padded
 use Rattle.halfread.proofs.tail.padded.Reads as padded-reads
 
--- an answer and a half-read message as one struct
-abbrev whole : Answer × HalfRead → Added
-whole p = record { answer = p.0; half = p.1 }
-
 pub open-settled : Settles opn.ended open-reads.Learnt (λ κs r x. r)
 open-settled κs a r s x y = value-settled
 
@@ -43,7 +36,7 @@ pub is-sound-settled : Settles is-sound.ended is-sound-reads.Learnt (λ κs r x.
 is-sound-settled κs a r s x y = value-settled
 
 pub add-settled : Settles add.ended add_reads.Learnt (λ κs r x. r)
-add-settled κs a r s x y j k = ap whole (answer-both j k)
+add-settled κs a r s x y = handed-settled r s
 
 pub close-settled : Settles {A = Answer × List ℕ} close.ended close-reads.Learnt (λ κs r x. (r, x.1.1.1.0.now))
 close-settled κs a r s x y = answer-both

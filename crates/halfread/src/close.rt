@@ -7,26 +7,31 @@ ghost use Rattle.halfread.specs.Steps.{close_tests, closed_digest};
 use crate::HalfRead;
 use crate::sound::is_sound;
 use crate::tail::tail_length;
-use answers::Answer;
+use answers::{Answer, Refusal};
 
 pub fn close(half: HalfRead, closing: u8, bits: u64, out: &mut [u8]) -> Answer
     ensures { Judged (close_tests half closing bits out.old) out.old
         (at_front (closed_digest half closing bits) out.old) (number_of result) out.new }
 {
     if !is_sound(half) {
-        return Answer::NotSound;
+        return Err(Refusal::NotSound);
     }
     if !dwsha2::closing::closing_fits(closing, bits) {
-        return Answer::BadClosing;
+        return Err(Refusal::BadClosing);
     }
     let edition = half.edition;
     if out.len() < fips::lookup::digest_bytes(edition) {
-        return Answer::ShortOutput;
+        return Err(Refusal::ShortOutput);
     }
-    let tail = half.tail;
     let end = tail_length(edition, half.count);
-    let words = half.words;
-    let last = dwsha2::finish::finish(edition, words, half.count, &tail[..end], closing, bits);
+    let last = dwsha2::finish::finish(
+        edition,
+        half.words,
+        half.count,
+        &half.tail[..end],
+        closing,
+        bits,
+    );
     dwsha2::hashing::write_digest(edition, last, out);
-    Answer::Done
+    Ok(())
 }

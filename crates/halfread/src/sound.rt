@@ -13,37 +13,29 @@ use crate::tail::tail_length;
 pub fn below_width(words: [u64; 8], thin: bool) -> bool
     ensures { result ≡ all_below (2 ^ word (width_of thin)) words }
 {
-    if !thin {
-        return true;
-    }
-    let mut i = 0;
-    while i < 8 {
-        if 0x1_0000_0000 <= words[i] {
-            return false;
-        }
-        i += 1;
-    }
-    true
+    !thin || words.iter().all(|word| *word < 0x1_0000_0000)
 }
 
 pub fn is_sound(half: HalfRead) -> bool
     ensures { result ≡ sound half }
 {
-    let edition = half.edition;
-    let count = half.count;
+    let HalfRead {
+        edition,
+        count,
+        words,
+        tail,
+    } = half;
     if !fips::lookup::known(edition) {
         return false;
     }
     if dwsha2::limit::too_long(edition, count, 0) {
         return false;
     }
-    let words = half.words;
     if !below_width(words, fips::lookup::narrow(edition)) {
         return false;
     }
-    let tail = half.tail;
     let from = tail_length(edition, count);
-    if !slices::zero::bytes_zero(&tail[from..]) {
+    if !slices::zero::all_are(&tail[from..], 0) {
         return false;
     }
     let size = fips::lookup::block_bytes(edition) as u64;
@@ -51,5 +43,5 @@ pub fn is_sound(half: HalfRead) -> bool
         return true;
     }
     let start = dwsha2::starting::starting_words(edition);
-    slices::same::same_words(&words, &start)
+    slices::same::same(&words, &start)
 }

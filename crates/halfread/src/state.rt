@@ -18,7 +18,7 @@ pub fn open(edition: u64) -> HalfRead
     }
 }
 
-// All zeros: what an empty bay holds, and what a refused load hands back.
+// All zeros: what an empty bay holds.
 pub fn blank() -> HalfRead
     ensures { result ≡ blank }
 {

@@ -18,7 +18,5 @@ pub fn tail_length(edition: u64, count: u64) -> usize
 pub fn padded(bytes: &[u8]) -> [u8; TAIL]
     ensures { result ≡ padded bytes.now }
 {
-    let mut tail = [0u8; TAIL];
-    slices::front::put_front(&mut tail, bytes);
-    tail
+    slices::front::padded(bytes)
 }

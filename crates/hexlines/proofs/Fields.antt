@@ -1,10 +1,10 @@
 -- The parts of a line around its first space.
-use mathlib.Core.Path.{◌≡◌, sym, ◌∙◌}
-use mathlib.Core.List.{List, []}
-use Prim.Native.Nat.{ℕ, suc, ◌+◌, ◌≤◌}
+use mathlib.Core.Path.{◌≡◌, ◌∙◌}
+use mathlib.Core.List.{List}
+use Prim.Native.Nat.{ℕ, ◌+◌}
 use native.Mathlib.Omega.{arith}
 use native.Mathlib.Numerals.{add-one}
-use lib.ListN.{length, take, drop, length-drop, drop_of_length-le}
+use lib.ListN.{length, take, drop, length-drop}
 use lib.Seq.{take_all}
 use Rattle.hexlines.specs.Fields.{place, first_field, other_fields}
 
@@ -16,7 +16,3 @@ module _ (s : List ℕ) (end : ℕ) (e : end ≡ place 32 s) where
   pub after-space : take (length s) (drop (end + 1) s) ≡ other_fields s
   unfolding other_fields
   after-space = take_all (length s) (drop (end + 1) s) (simp length-drop (omega arith)) ∙ rw (add-one, e)
-
-  pub no-space : length s ≤ end → [] ≡ other_fields s
-  unfolding other_fields
-  no-space h = sym (drop_of_length-le s {i = suc (place 32 s)} (omega arith))

@@ -1,16 +1,15 @@
--- An add judged by the add of its inner message: `add-judged`. A tag at once: the edition and the lengths are asked first, `lengths-stop`
--- and `lengths-passed`, and then the tag, `check-first`, or the output, `tag-first`.
-use Prim.Native.Nat.{ℕ, ◌<◌}
+-- An add judged by the add of its inner message: `add-judged`. A tag at once: the edition and the lengths are asked first,
+-- `lengths-passed`, and then the tag, `check-first`, or the output, `tag-first`.
+use Prim.Native.Nat.{ℕ}
 use mathlib.Core.Bool.{Bool, true, false, cond, ◌||◌, true≢false}
-use mathlib.Core.List.{List, ◌++◌}
-use mathlib.Core.Path.{◌≡◌, sym, ◌∙◌}
-use native.Mathlib.Omega.{arith}
+use mathlib.Core.List.{List}
+use mathlib.Core.Path.{◌≡◌}
 use borrow.Author.Tests.{not-false}
 use lib.Dec.{ltb}
 use lib.ListN.{length}
-use Rattle.answers.specs.Judged.{Test, Judged, first}
+use Rattle.answers.specs.Judged.{Judged, first}
 use Rattle.answers.proofs.Refusals.{judged-map}
-use Rattle.answers.proofs.Tests.{passed, first_off}
+use Rattle.answers.proofs.Tests.{passed}
 use Rattle.slices.specs.Tests.{holds, same}
 use Rattle.fips.specs.Editions.{known, digest_bytes}
 use Rattle.dwsha2.specs.Limit.{too_long}
@@ -25,7 +24,7 @@ use Rattle.keyed.proofs.Soundness.{inner-decides}
 
 module _ (k : Keyed) (piece : List ℕ) (kept : holds (more_rules k) ≡ true) where
   -- the same tests
-  add-tests : add_tests k piece ≡ half.add_tests k.inner piece
+  pub add-tests : add_tests k piece ≡ half.add_tests k.inner piece
   unfolding add_tests half.add_tests
   add-tests = rw (inner-decides k kept)
 
@@ -57,10 +56,6 @@ module _ (e k n : ℕ) where
       second : (a : Bool) {b : Bool} → (a || b) ≡ false → b ≡ false
       second true p = absurd (true≢false p)
       second false p = p
-
-  pub lengths-stop : (more : List Test) {number : ℕ} → number ≡ first (length_tests e k n) → 0 < number →
-      number ≡ first (length_tests e k n ++ more)
-  lengths-stop more is some = is ∙ sym (first_off (length_tests e k n) more (omega arith))
 
 -- past the edition and the lengths the tag decides
 pub check-first : (e : ℕ) (key m tag : List ℕ) → LengthsPass e (length key) (length m) → (b : Bool) → same tag (hmac e key m) ≡ b →

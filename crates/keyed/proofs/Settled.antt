@@ -2,14 +2,10 @@
 -- `Learnt` is that contract, made from src. SPEC, "How much each call says".
 use Prim.Native.Nat.{ℕ}
 use mathlib.Core.List.{List}
-use mathlib.Core.Path.{ap}
 use Rattle.contracts.specs.Says.{Settles}
 use Rattle.contracts.proofs.Values.{value-settled}
-use Rattle.answers.specs.declared.Answer.{Answer}
-use Rattle.answers.proofs.Outcome.{answer-both, answer-numbered}
-use Rattle.keyed.specs.declared.Keyed.{Keyed}
-use Rattle.keyed.specs.declared.state.Started.{Started}
-use Rattle.keyed.specs.declared.add.Added.{Added}
+use Rattle.answers.specs.Numbers.{Answer}
+use Rattle.answers.proofs.Outcome.{answer-both, answer-numbered, handed-settled}
 use Rattle.keyed.specs.contracts.state.start as start
 use Rattle.keyed.proofs.state.start.Reads as start-reads
 use Rattle.keyed.specs.contracts.state.is_sound as is-sound
@@ -25,21 +21,14 @@ use Rattle.keyed.proofs.at_once.tag.Reads as at-once-tag-reads
 use Rattle.keyed.specs.contracts.at_once.check as at-once-check
 use Rattle.keyed.proofs.at_once.check.Reads as at-once-check-reads
 
--- an answer and a keyed hash as one struct
-abbrev started : Answer × Keyed → Started
-started p = record { answer = p.0; keyed = p.1 }
-
-abbrev added : Answer × Keyed → Added
-added p = record { answer = p.0; keyed = p.1 }
-
 pub start-settled : Settles start.ended start-reads.Learnt (λ κs r x. r)
-start-settled κs a r s x y j k = ap started (answer-both j.0 k.0)
+start-settled κs a r s x y j k = handed-settled r s j.0 k.0
 
 pub is-sound-settled : Settles is-sound.ended is-sound-reads.Learnt (λ κs r x. r)
 is-sound-settled κs a r s x y = value-settled
 
 pub add-settled : Settles add.ended add_reads.Learnt (λ κs r x. r)
-add-settled κs a r s x y j k = ap added (answer-both j.0 k.0)
+add-settled κs a r s x y j k = handed-settled r s j.0 k.0
 
 pub tag-settled : Settles {A = Answer × List ℕ} tag.ended tag-reads.Learnt (λ κs r x. (r, x.1.0.now))
 tag-settled κs a r s x y j k = answer-both j.0 k.0

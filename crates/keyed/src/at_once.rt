@@ -2,41 +2,38 @@
 ghost use Rattle.std.specs.Prelude.{◌≡◌, false, length};
 ghost use Rattle.answers.specs.Judged.{first};
 ghost use Rattle.answers.specs.Numbers.{number_of};
-ghost use Rattle.slices.specs.Padded.{padded};
 ghost use Rattle.hmac.specs.Hmac.{B, hmac};
 ghost use Rattle.dwsha2.specs.Limit.{too_long};
-ghost use Rattle.keyed.specs.State.{tag_room};
 ghost use Rattle.keyed.specs.AtOnce.{length_tests, check_at_once_tests, Tags};
 
-use crate::outer::{TAG, tag_of};
+use crate::outer::{Tag, tag_of};
 use crate::pads::{INNER, OUTER, block_key, words_after};
-use answers::Answer;
+use answers::{Answer, Refusal};
 use dwsha2::finish::finish;
 use dwsha2::limit::too_long;
 use fips::lookup::{block_bytes, digest_bytes, known};
 use slices::front::put_front;
-use slices::same::same_bytes;
+use slices::same::same;
 
 // What both calls ask first: the edition, and the lengths of the key and of what the inner hash takes, a block and the message.
 fn gate(edition: u64, key: usize, message: usize) -> Answer
     ensures { number_of result ≡ first (length_tests edition key message) }
 {
     if !known(edition) {
-        return Answer::NoSuchEdition;
+        return Err(Refusal::NoSuchEdition);
     }
     if too_long(edition, 0, key) {
-        return Answer::TooLong;
+        return Err(Refusal::TooLong);
     }
     if too_long(edition, block_bytes(edition) as u64, message) {
-        return Answer::TooLong;
+        return Err(Refusal::TooLong);
     }
-    Answer::Done
+    Ok(())
 }
 
-// The tag with zeros behind it.
-fn made(edition: u64, key: &[u8], message: &[u8]) -> [u8; TAG]
+fn made(edition: u64, key: &[u8], message: &[u8]) -> Tag
     requires { too_long edition (B edition) (length message.now) ≡ false }
-    ensures { result ≡ padded tag_room (hmac edition key.now message.now) }
+    ensures { result ≡ hmac edition key.now message.now }
 {
     let block = block_key(edition, key);
     let inner = words_after(edition, block, INNER);
@@ -49,30 +46,20 @@ fn made(edition: u64, key: &[u8], message: &[u8]) -> [u8; TAG]
 pub fn tag(edition: u64, key: &[u8], message: &[u8], out: &mut [u8]) -> Answer
     ensures { Tags edition key.now message.now out.old (number_of result) out.new }
 {
-    let passed = gate(edition, key.len(), message.len());
-    let Answer::Done = passed else {
-        return passed;
-    };
-    let n = digest_bytes(edition);
-    if out.len() < n {
-        return Answer::ShortOutput;
+    gate(edition, key.len(), message.len())?;
+    if out.len() < digest_bytes(edition) {
+        return Err(Refusal::ShortOutput);
     }
-    let tag = made(edition, key, message);
-    put_front(out, &tag[..n]);
-    Answer::Done
+    put_front(out, made(edition, key, message).bytes());
+    Ok(())
 }
 
 pub fn check(edition: u64, key: &[u8], message: &[u8], tag: &[u8]) -> Answer
     ensures { number_of result ≡ first (check_at_once_tests edition key.now message.now tag.now) }
 {
-    let passed = gate(edition, key.len(), message.len());
-    let Answer::Done = passed else {
-        return passed;
-    };
-    let n = digest_bytes(edition);
-    let whole = made(edition, key, message);
-    if !same_bytes(tag, &whole[..n]) {
-        return Answer::DigestDiffers;
+    gate(edition, key.len(), message.len())?;
+    if !same(tag, made(edition, key, message).bytes()) {
+        return Err(Refusal::DigestDiffers);
     }
-    Answer::Done
+    Ok(())
 }

@@ -3,23 +3,21 @@ ghost use Rattle.std.specs.Prelude.{◌≡◌};
 ghost use Rattle.answers.specs.Judged.{first, Judged};
 ghost use Rattle.answers.specs.Numbers.{number_of};
 ghost use Rattle.slices.specs.AtFront.{at_front};
-ghost use Rattle.slices.specs.Padded.{padded};
-ghost use Rattle.keyed.specs.State.{tag_room, Shaped};
+ghost use Rattle.keyed.specs.State.{Shaped};
 ghost use Rattle.keyed.specs.Steps.{tag_of, tag_tests, check_tests};
 
 use crate::Keyed;
-use crate::outer::{TAG, tag_of};
+use crate::outer::{Tag, tag_of};
 use crate::state::is_sound;
-use answers::Answer;
+use answers::{Answer, Refusal};
 use dwsha2::finish::finish;
 use fips::lookup::digest_bytes;
 use halfread::tail::tail_length;
 use slices::front::put_front;
-use slices::same::same_bytes;
+use slices::same::same;
 
-// The tag with zeros behind it.
-fn ended(keyed: Keyed) -> [u8; TAG]
-    ensures { result ≡ padded tag_room (tag_of keyed) }
+fn ended(keyed: Keyed) -> Tag
+    ensures { result ≡ tag_of keyed }
 {
     let edition = keyed.inner.edition;
     let words = keyed.inner.words;
@@ -37,27 +35,23 @@ pub fn tag(keyed: Keyed, out: &mut [u8]) -> Answer
     ensures shaped { Shaped keyed }
 {
     if !is_sound(keyed) {
-        return Answer::NotSound;
+        return Err(Refusal::NotSound);
     }
-    let n = digest_bytes(keyed.inner.edition);
-    if out.len() < n {
-        return Answer::ShortOutput;
+    if out.len() < digest_bytes(keyed.inner.edition) {
+        return Err(Refusal::ShortOutput);
     }
-    let tag = ended(keyed);
-    put_front(out, &tag[..n]);
-    Answer::Done
+    put_front(out, ended(keyed).bytes());
+    Ok(())
 }
 
 pub fn check(keyed: Keyed, tag: &[u8]) -> Answer
     ensures { number_of result ≡ first (check_tests keyed tag.now) }
 {
     if !is_sound(keyed) {
-        return Answer::NotSound;
+        return Err(Refusal::NotSound);
     }
-    let n = digest_bytes(keyed.inner.edition);
-    let made = ended(keyed);
-    if !same_bytes(tag, &made[..n]) {
-        return Answer::DigestDiffers;
+    if !same(tag, ended(keyed).bytes()) {
+        return Err(Refusal::DigestDiffers);
     }
-    Answer::Done
+    Ok(())
 }

@@ -33,16 +33,13 @@ pub(crate) fn block_key(edition: u64, key: &[u8]) -> [u8; TAIL]
 }
 
 // Every byte xored with one.
-fn xor(block: [u8; TAIL], pad: u8) -> [u8; TAIL]
+fn xor(mut block: [u8; TAIL], pad: u8) -> [u8; TAIL]
     ensures { result ≡ xored pad block }
 {
-    let mut out = [0u8; TAIL];
-    let mut i = 0;
-    while i < TAIL {
-        out[i] = pad ^ block[i];
-        i += 1;
+    for byte in &mut block {
+        *byte ^= pad;
     }
-    out
+    block
 }
 
 // The chaining words after one block, whose bytes are xored.

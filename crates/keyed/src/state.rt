@@ -1,6 +1,6 @@
 // A keyed hash that a key begins, and whether one is sound: SPEC, "Keyed digests".
 ghost use Rattle.std.specs.Prelude.{◌≡◌};
-ghost use Rattle.answers.specs.Judged.{Judged};
+ghost use Rattle.answers.specs.Judged.{handed, Judged};
 ghost use Rattle.answers.specs.Numbers.{number_of};
 ghost use Rattle.slices.specs.Below.{Bytes};
 ghost use Rattle.slices.specs.Tests.{holds};
@@ -9,27 +9,11 @@ ghost use Rattle.keyed.specs.Steps.{start_tests, started};
 
 use crate::Keyed;
 use crate::pads::{INNER, OUTER, block_key, words_after};
-use answers::Answer;
+use answers::Refusal;
 use dwsha2::limit::too_long;
 use fips::lookup::{block_bytes, known, narrow};
 use halfread::sound::below_width;
 use halfread::{HalfRead, TAIL};
-
-#[derive(Clone, Copy)]
-pub struct Started {
-    pub answer: Answer,
-    pub keyed: Keyed,
-}
-
-// All zeros, which is not sound: what a refused start hands back.
-fn blank() -> Keyed
-    ensures { result ≡ blank }
-{
-    Keyed {
-        inner: halfread::state::blank(),
-        outer: [0; 8],
-    }
-}
 
 // The key's inner block is taken, and its outer block is kept as the chaining words after it.
 fn begun(edition: u64, key: &[u8]) -> Keyed
@@ -47,27 +31,17 @@ fn begun(edition: u64, key: &[u8]) -> Keyed
     Keyed { inner, outer }
 }
 
-pub fn start(edition: u64, key: &[u8]) -> Started
-    ensures judged { Judged (start_tests edition key.now) blank (started edition key.now) (number_of result.answer) result.keyed }
+pub fn start(edition: u64, key: &[u8]) -> Result<Keyed, Refusal>
+    ensures judged { Judged (start_tests edition key.now) blank (started edition key.now) (number_of result) (handed blank result) }
     ensures bytes { Bytes key.now }
 {
     if !known(edition) {
-        return Started {
-            answer: Answer::NoSuchEdition,
-            keyed: blank(),
-        };
+        return Err(Refusal::NoSuchEdition);
     }
     if too_long(edition, 0, key.len()) {
-        return Started {
-            answer: Answer::TooLong,
-            keyed: blank(),
-        };
+        return Err(Refusal::TooLong);
     }
-    let keyed = begun(edition, key);
-    Started {
-        answer: Answer::Done,
-        keyed,
-    }
+    Ok(begun(edition, key))
 }
 
 // What is asked beside the rules of a taken bay: a block or more, and outer words below 2^w.

@@ -1,5 +1,5 @@
 -- The calls on lent words judged by the calls on the keyed hash: `start-refused`, `start-short` and `start-done`, which ask for the words
--- last, and `add-refused`, `add_done`, `tag-judged` and `check-judged`, where too few words are refused before.
+-- last, and `add-refused`, `add_done`, `tag-judged` and `check-judged`, where too few words are refused before, `too_few`.
 use Prim.Native.Nat.{ℕ, ◌≤◌, ◌<◌}
 use mathlib.Core.Bool.{false}
 use mathlib.Core.List.{List, [], ◌∷◌}
@@ -7,11 +7,12 @@ use mathlib.Core.Path.{◌≡◌, refl, sym, ap, subst, ◌∙◌}
 use borrow.Author.Tests.{lt-ltb, le-ltb}
 use lib.Dec.{T, ltb}
 use lib.ListN.{length}
-use Rattle.answers.specs.declared.Answer.{Answer}
+use Rattle.std.specs.Result.{IsErrAnd}
+use Rattle.answers.specs.declared.Refusal.{Refusal}
 use Rattle.answers.specs.Judged.{Test, ◌when◌, Judged, first}
-use Rattle.answers.specs.Numbers.{number_of}
+use Rattle.answers.specs.Numbers.{Answer, number_of, refusal_number}
 use Rattle.answers.proofs.Outcome.{refused, done}
-use Rattle.answers.proofs.Refusals.{stopped, went_on, part-refused, done_first, done-leaves}
+use Rattle.answers.proofs.Refusals.{went_on, zero-first, zero-leaves, passed-keeps, passed-stops}
 use Rattle.answers.proofs.Tests.{refusing, first-skip}
 use Rattle.slices.specs.AtFront.{at_front}
 use Rattle.keyed.specs.declared.Keyed.{Keyed}
@@ -34,25 +35,32 @@ module _ (ws : List ℕ) (e : ℕ) (key : List ℕ) where
   unfolding step.start_tests
   asks = tt
 
-  pub start-refused : {n : ℕ} {left : Keyed} → Started n left → 0 < n → Starts ws e key n ws
+  pub start-refused : (r : Answer) (x : Refusal) → IsErrAnd r (λ y. y ≡ x) → {left : Keyed} → Started (refusal_number x) left →
+      Starts ws e key (number_of r) ws
   unfolding start_tests
-  start-refused j some = stopped (step.start_tests e key) (few 9 ws ∷ []) j.answer some refl
+  start-refused r x is j = passed-stops r x is (step.start_tests e key) (few 9 ws ∷ []) j.answer
 
-  module _ {r : Answer} {left : Keyed} (j : Started (number_of r) left) (is_done : r ≡ Answer.Done) where
+  module _ {left : Keyed} (j : Started 0 left) where
     pub start-short : length ws < keyed_words → Starts ws e key 9 ws
     unfolding start_tests first
     start-short short =
-        went_on (step.start_tests e key) (few 9 ws ∷ []) asks (done_first {r = r} j is_done)
+        went_on (step.start_tests e key) (few 9 ws ∷ []) asks (zero-first j refl)
         (refused (rw (lt-ltb (length ws) keyed_words short)) tt refl)
 
     pub start-done : {after : List ℕ} → keyed_words ≤ length ws → after ≡ at_front (words_of left) ws → Starts ws e key 0 after
     unfolding start_tests first
     start-done enough is_after =
-        went_on (step.start_tests e key) (few 9 ws ∷ []) asks (done_first {r = r} j is_done)
+        went_on (step.start_tests e key) (few 9 ws ∷ []) asks (zero-first j refl)
         (done (rw (le-ltb (length ws) keyed_words enough))
-        (is_after ∙ ap (λ (k : Keyed). at_front (words_of k) ws) (done-leaves {r = r} j is_done)))
+        (is_after ∙ ap (λ (k : Keyed). at_front (words_of k) ws) (zero-leaves j refl)))
 
 -- ---- the calls that need a keyed hash
+
+-- too few words hold none
+pub too_few : (ws : List ℕ) (tests : List Test) {x : Refusal} → (length ws < keyed_words) × (x ≡ Refusal.NotSound) →
+    refusal_number x ≡ first (few 6 ws ∷ tests)
+unfolding first
+too_few ws tests (short, is) = ap refusal_number is ∙ rw (lt-ltb (length ws) keyed_words short)
 
 module _ (ws : List ℕ) (enough : keyed_words ≤ length ws) where
   none-lack : ltb (length ws) keyed_words ≡ false
@@ -74,17 +82,17 @@ module _ (ws : List ℕ) (enough : keyed_words ≤ length ws) where
     there : {n : ℕ} {left : Keyed} → Added u n left → Added (keyed_in ws) n left
     there {n} {left} j = subst (λ (k : Keyed). Added k n left) holds j
 
-    pub add-refused : {n : ℕ} {left : Keyed} → Added u n left → 0 < n → Adds ws piece n ws
+    pub add-refused : (r : Answer) (x : Refusal) → IsErrAnd r (λ y. y ≡ x) → {left : Keyed} → Added u (refusal_number x) left →
+        Adds ws piece (number_of r) ws
     unfolding add_tests
-    add-refused j some = on (step.add_tests (keyed_in ws) piece) (part-refused (there j) some refl)
+    add-refused r x is j = on (step.add_tests (keyed_in ws) piece) (passed-keeps r x is (there j).answer)
 
-    pub add_done : {r : Answer} {left : Keyed} {after : List ℕ} → Added u (number_of r) left → r ≡ Answer.Done →
-        after ≡ at_front (words_of left) ws → Adds ws piece 0 after
+    pub add_done : {left : Keyed} {after : List ℕ} → Added u 0 left → after ≡ at_front (words_of left) ws → Adds ws piece 0 after
     unfolding add_tests
-    add_done {r} {left} j e is_after =
+    add_done j is_after =
         on (step.add_tests (keyed_in ws) piece)
-        (done (done_first {r = r} (there j) e)
-        (is_after ∙ ap (λ (k : Keyed). at_front (words_of k) ws) (done-leaves {r = r} (there j) e)))
+        (done (zero-first (there j) refl)
+        (is_after ∙ ap (λ (k : Keyed). at_front (words_of k) ws) (zero-leaves (there j) refl)))
 
   pub tag-judged : (out : List ℕ) {u : Keyed} {n : ℕ} {left : List ℕ} → u ≡ keyed_in ws →
       Judged (step.tag_tests u out) out (at_front (step.tag_of u) out) n left → Ends ws out n left

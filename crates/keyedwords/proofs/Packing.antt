@@ -6,7 +6,8 @@ use mathlib.Core.List.{List, [], ◌++◌, append_assoc, append-nil}
 use mathlib.Core.Path.{◌≡◌, sym, ap, ap₂, ◌∙◌}
 use native.Mathlib.Omega.{arith}
 use lib.ListN.{length, take, drop, length-append, length-drop, take-append-drop, drop_of_length-le}
-use lib.Seq.{take_all, take_at, drop_at, take-add, drop-drop, length-take-le}
+use lib.Seq.{take_all, take_at, drop_at, take-add, take-take, drop-drop, length-take-le}
+use Rattle.std.proofs.lemmas.List.{drop-take}
 use Rattle.slices.specs.AtFront.{at_front}
 use Rattle.slices.specs.Below.{Below}
 use Rattle.slices.specs.Padded.{padded}
@@ -40,6 +41,13 @@ unpacked ws room enough eight is_inner is_outer =
     same-keyed _ _ (is_inner ∙ ap half_of (padded-first bay_words ws (omega arith)))
     (is_outer
     ∙ at_front-all (part ws outer_from chain_room) room (eight ∙ sym (length_part outer_from chain_room ws enough)))
+
+-- the first words hold what all of them do
+pub held-front : (ws : List ℕ) → keyed_in (take keyed_words ws) ≡ keyed_in ws
+unfolding keyed_in
+held-front ws =
+    same-keyed _ _ (ap half_of (take-take bay_words keyed_words ws (omega arith)))
+    (ap (take chain_room) (drop-take outer_from chain_room ws) ∙ take-take chain_room chain_room (drop outer_from ws) (omega arith))
 
 -- ---- packed
 

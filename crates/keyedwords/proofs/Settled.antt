@@ -3,7 +3,7 @@
 use Prim.Native.Nat.{ℕ}
 use mathlib.Core.List.{List}
 use Rattle.contracts.specs.Says.{Settles}
-use Rattle.answers.specs.declared.Answer.{Answer}
+use Rattle.answers.specs.Numbers.{Answer}
 use Rattle.answers.proofs.Outcome.{answer-both, answer-numbered}
 use Rattle.keyedwords.specs.contracts.start as start
 use Rattle.keyedwords.proofs.start.Reads as start-reads

@@ -9,7 +9,7 @@ use native.Mathlib.Omega.{arith}
 use borrow.Author.Tests.{le-ltb}
 use denote.Ref.{Bor, MutBor}
 use lib.ListN.{length, length-append}
-use Rattle.answers.specs.declared.Answer.{Answer}
+use Rattle.std.specs.Prelude.{Ok}
 use Rattle.answers.specs.Judged.{first}
 use Rattle.answers.proofs.Outcome.{done}
 use Rattle.slices.specs.AtFront.{at_front}
@@ -68,7 +68,7 @@ module _ (e : ℕ) (key : List ℕ) (pass : StartPasses e key) (small : Bytes ke
       (record {
         κs = ([], tt);
         args = (e, (slice key, tt));
-        result = record { answer = Answer.Done; keyed = started e key };
+        result = Ok (started e key);
         last = (tt, (tt, tt));
         learnt = (done (start-passes e key pass) refl, small);
       })
@@ -83,7 +83,7 @@ module _ (e : ℕ) (key : List ℕ) (pass : StartPasses e key) (small : Bytes ke
       (record {
         κs = ([], tt);
         args = (k, (slice piece, tt));
-        result = record { answer = Answer.Done; keyed = added k piece };
+        result = Ok (added k piece);
         last = (tt, (tt, tt));
         learnt = (done (add-passes k piece (next-passes l piece short)) refl, (leads-shaped l, bytes));
       })

@@ -14,10 +14,11 @@ use borrow.Author.Tests.{le-ltb}
 use lib.Dec.{ltb}
 use lib.ListN.{length}
 use Rattle.contracts.specs.Says.{Made, exit}
-use Rattle.answers.specs.declared.Answer.{Answer}
-use Rattle.answers.specs.Judged.{first}
+use Rattle.std.specs.Prelude.{Result, Ok, Err}
+use Rattle.answers.specs.declared.Refusal.{Refusal}
+use Rattle.answers.specs.Judged.{first, handed}
 use Rattle.answers.specs.Numbers.{number_of}
-use Rattle.answers.proofs.Outcome.{number-injective, answer-settled}
+use Rattle.answers.proofs.Outcome.{number-injective, answer-settled, refusing-number}
 use Rattle.answers.proofs.Refusals.{zero-first, zero-leaves, done_first, done-leaves, refused-leaves}
 use Rattle.slices.specs.AtFront.{at_front}
 use Rattle.slices.specs.Below.{Bytes}
@@ -27,7 +28,7 @@ use Rattle.dwsha2.specs.Limit.{too_long}
 use Rattle.hmac.specs.Hmac.{B, hmac}
 use Rattle.keyed.specs.declared.Keyed.{Keyed}
 use Rattle.keyed.specs.State.{blank, sound, Shaped}
-use Rattle.keyed.specs.Steps.{added, tag_of, keyed_of}
+use Rattle.keyed.specs.Steps.{started, added, tag_of, keyed_of}
 use Rattle.keyed.specs.AtOnce.{length_tests}
 use Rattle.keyed.proofs.Adding.{started-sound, added-append, added_none, added-sound, length-tag_of}
 use Rattle.keyed.proofs.Judging.{lengths-passed, check-first}
@@ -44,7 +45,7 @@ use Rattle.keyed.proofs.at_once.tag.Reads as at-once-reads
 use Rattle.keyed.specs.contracts.at_once.check as at-once-check
 use Rattle.keyed.proofs.at_once.check.Reads as at-once-check-reads
 use Rattle.keying.specs.ByValue.{Taken, started-by, added-by, kept_by}
-use Rattle.keying.proofs.Passing.{start-passed, AddPasses, add-passed, add-passes, add-answers}
+use Rattle.keying.proofs.Passing.{StartPasses, start-passed, AddPasses, add-passed, add-passes, add-answers}
 use Rattle.keying.proofs.Passing.{tag-answers, check-answers, same-passes, passes-both, passes-first, passes-second}
 use Rattle.keying.proofs.Leading.{Leads, leads-start, leads-same, leads-add, leads-sound, leads-edition, leads-tag, room-left}
 use Rattle.keying.proofs.Leading.{leads-lengths, leads-tagged, once-tagged}
@@ -62,7 +63,7 @@ module _ (m : Made at_once.ended at-once-reads.Learnt) where
   pub at-once-kept : 0 < number_of m.result → (exit m).1.1.1.0.now ≡ room
   at-once-kept r = refused-leaves m.learnt r
 
-  pub hmac-at-once : m.result ≡ Answer.Done → (exit m).1.1.1.0.now ≡ at_front whole-tag room
+  pub hmac-at-once : m.result ≡ Ok tt → (exit m).1.1.1.0.now ≡ at_front whole-tag room
   hmac-at-once d = done-leaves {r = m.result} m.learnt d
 
 -- where the edition and the lengths pass, the tag decides
@@ -90,7 +91,7 @@ abbrev piece : Add → List ℕ
 piece m = m.args.1.0.now
 
 abbrev Done : Add → Type 0
-Done m = m.result.answer ≡ Answer.Done
+Done m = number_of m.result ≡ 0
 
 shape : (m : Add) → Shaped (before m)
 shape m = m.learnt.1.0
@@ -99,23 +100,32 @@ bytes : (m : Add) → Bytes (piece m)
 bytes m = m.learnt.1.1
 
 passes : (m : Add) → Done m → AddPasses (before m) (piece m)
-passes m d = add-passed (before m) (piece m) (done_first {r = m.result.answer} m.learnt.0 d)
+passes m d = add-passed (before m) (piece m) (zero-first m.learnt.0 d)
 
-leaves : (m : Add) → Done m → m.result.keyed ≡ added (before m) (piece m)
-leaves m d = done-leaves {r = m.result.answer} m.learnt.0 d
+-- what is left of the keyed hash: what the add hands out, and the same where it refuses
+abbrev left : Add → Keyed
+left m = handed (before m) m.result
+
+leaves : (m : Add) → Done m → left m ≡ added (before m) (piece m)
+leaves m d = zero-leaves m.learnt.0 d
+
+hands-out : (m : Add) → Done m → m.result ≡ Ok (left m)
+hands-out m d = go m.result d
+  where
+    go : (r : Result Keyed Refusal) → number_of r ≡ 0 → r ≡ Ok (handed (before m) r)
+    go (Ok k) d = refl
+    go (Err e) d = absurd (rw d at (refusing-number e))
 
 done-by : (m : Add) {k : Keyed} {p : List ℕ} → before m ≡ k → piece m ≡ p → AddPasses k p → Done m
-done-by m on is h =
-    number-injective m.result.answer Answer.Done
-    (m.learnt.0.answer ∙ add-passes (before m) (piece m) (same-passes on is h))
+done-by m on is h = m.learnt.0.answer ∙ add-passes (before m) (piece m) (same-passes on is h)
 
 -- ---- a refused call changes nothing
 
--- a refused start hands back zeros, which no call takes
-pub start-kept : (m : Start) → 0 < number_of m.result.answer → m.result.keyed ≡ blank
+-- a refused start hands out nothing, for which zeros stand, which no call takes
+pub start-kept : (m : Start) → 0 < number_of m.result → handed blank m.result ≡ blank
 start-kept m r = refused-leaves m.learnt.0 r
 
-pub keyed-kept : (m : Add) → 0 < number_of m.result.answer → m.result.keyed ≡ before m
+pub keyed-kept : (m : Add) → 0 < number_of m.result → left m ≡ before m
 keyed-kept m r = refused-leaves m.learnt.0 r
 
 pub tag-kept : (m : Made tagging.ended tagging-reads.Learnt) → 0 < number_of m.result → (exit m).1.0.now ≡ m.args.1.0.now
@@ -123,17 +133,19 @@ tag-kept m r = refused-leaves m.learnt.0 r
 
 -- ---- sound keyed hashes stay sound, and have a tag
 
-pub start-sound : (m : Start) → m.result.answer ≡ Answer.Done → sound m.result.keyed ≡ true
-start-sound m d =
-    let e = m.args.0 in
-    let key = m.args.1.0.now in
-    let pass = start-passed e key (done_first {r = m.result.answer} m.learnt.0 d) in
-    ap sound (done-leaves {r = m.result.answer} m.learnt.0 d) ∙ started-sound e key m.learnt.1 pass.ok
+start-pass : (m : Start) {k : Keyed} → m.result ≡ Ok k → StartPasses m.args.0 m.args.1.0.now
+start-pass m d = start-passed m.args.0 m.args.1.0.now (done_first {r = m.result} m.learnt.0 d)
 
-pub add-sound : (m : Add) → sound (before m) ≡ true → sound m.result.keyed ≡ true
-add-sound m ok = go (number_of m.result.answer) refl
+start-leaves : (m : Start) {k : Keyed} → m.result ≡ Ok k → k ≡ started m.args.0 m.args.1.0.now
+start-leaves m d = sym (ap (handed blank) d) ∙ done-leaves {r = m.result} m.learnt.0 d
+
+pub start-sound : (m : Start) {k : Keyed} → m.result ≡ Ok k → sound k ≡ true
+start-sound m d = ap sound (start-leaves m d) ∙ started-sound m.args.0 m.args.1.0.now m.learnt.1 (start-pass m d).ok
+
+pub add-sound : (m : Add) → sound (before m) ≡ true → sound (left m) ≡ true
+add-sound m ok = go (number_of m.result) refl
   where
-    go : (n : ℕ) → number_of m.result.answer ≡ n → sound m.result.keyed ≡ true
+    go : (n : ℕ) → number_of m.result ≡ n → sound (left m) ≡ true
     go zero e =
         let p = add-passed (before m) (piece m) (zero-first m.learnt.0 e) in
         ap sound (zero-leaves m.learnt.0 e) ∙ added-sound (before m) (shape m) (piece m) (bytes m) p.within ok
@@ -142,9 +154,9 @@ add-sound m ok = go (number_of m.result.answer) refl
 -- of a sound keyed hash, whatever its outer words are: it is answered wherever it finds room, and is as long as a digest
 pub tag-defined : (m : Made tagging.ended tagging-reads.Learnt) → sound m.args.0 ≡ true →
     digest_bytes m.args.0.inner.edition ≤ length m.args.1.0.now →
-    (m.result ≡ Answer.Done) × (length (tag_of m.args.0) ≡ digest_bytes m.args.0.inner.edition)
+    (m.result ≡ Ok tt) × (length (tag_of m.args.0) ≡ digest_bytes m.args.0.inner.edition)
 tag-defined m ok enough = (
-  number-injective m.result Answer.Done
+  number-injective m.result (Ok tt)
       (m.learnt.0.answer ∙ tag-answers m.args.0 m.args.1.0.now ok
       ∙ rw (le-ltb (length m.args.1.0.now) (digest_bytes m.args.0.inner.edition) enough)),
   length-tag_of m.args.0 m.learnt.1,
@@ -153,10 +165,10 @@ tag-defined m ok enough = (
 -- ---- no bytes
 
 -- done or refused, no bytes change nothing
-pub hmac-nothing : (m : Add) → piece m ≡ [] → m.result.keyed ≡ before m
-hmac-nothing m none = go (number_of m.result.answer) refl
+pub hmac-nothing : (m : Add) → piece m ≡ [] → left m ≡ before m
+hmac-nothing m none = go (number_of m.result) refl
   where
-    go : (n : ℕ) → number_of m.result.answer ≡ n → m.result.keyed ≡ before m
+    go : (n : ℕ) → number_of m.result ≡ n → left m ≡ before m
     go zero e =
         let k = before m in
         zero-leaves m.learnt.0 e
@@ -171,9 +183,9 @@ pub record Appends (a b both : Add) : Type 0 where
   pub joined : Done a → Done b → Done both
   pub first : Done both → Done a
   pub second : Done both → Done b
-  pub same : Done a → Done b → both.result.keyed ≡ b.result.keyed
+  pub same : Done a → Done b → both.result ≡ b.result
 
-module _ (a b both : Add) (on_a : before b ≡ a.result.keyed) (alike : before both ≡ before a)
+module _ (a b both : Add) (on_a : before b ≡ left a) (alike : before both ≡ before a)
     (joined : piece both ≡ piece a ++ piece b) where
   abbrev k : Keyed
   k = before a
@@ -210,22 +222,22 @@ module _ (a b both : Add) (on_a : before b ≡ a.result.keyed) (alike : before b
         second = second-done;
         same =
             λ d e.
-            leaves both (joined-done d e)
+            hands-out both (joined-done d e)
+            ∙ ap Ok
+            (leaves both (joined-done d e)
             ∙ ap₂ added alike joined
-            ∙ sym (leaves b e ∙ ap (λ (t : Keyed). added t q) (second-on d) ∙ added-append k (shape a) p q);
+            ∙ sym (leaves b e ∙ ap (λ (t : Keyed). added t q) (second-on d) ∙ added-append k (shape a) p q))
+            ∙ sym (hands-out b e);
       }
 
 -- ---- from the start
 
 pub leads : {e : ℕ} {key all : List ℕ} {k : Keyed} → Taken e key all k → Leads e key all k
-leads (started-by m d) =
-    let e = m.args.0 in
-    let key = m.args.1.0.now in
-    let pass = start-passed e key (done_first {r = m.result.answer} m.learnt.0 d) in
-    leads-same (leads-start e key pass m.learnt.1) (done-leaves {r = m.result.answer} m.learnt.0 d)
+leads (started-by m d) = leads-same (leads-start m.args.0 m.args.1.0.now (start-pass m d) m.learnt.1) (start-leaves m d)
 leads (added-by t m on d) =
+    let is_done = ap number_of d in
     let l = leads-same (leads t) on in
-    leads-same (leads-add l (piece m) (bytes m) (passes m d).within) (leaves m d)
+    leads-same (leads-add l (piece m) (bytes m) (passes m is_done).within) (sym (ap (handed (before m)) d) ∙ leaves m is_done)
 leads (kept_by t m on r) = leads-same (leads t) (keyed-kept m r ∙ on)
 
 pub hmac-of : {e : ℕ} {key all : List ℕ} {k : Keyed} → Taken e key all k → k ≡ keyed_of e key all
@@ -233,7 +245,7 @@ hmac-of t = (leads t).is
 
 module _ {e : ℕ} {key all : List ℕ} {k : Keyed} (t : Taken e key all k) where
   -- the next piece is refused for the limit alone, with 7
-  pub hmac-answers : (m : Add) → before m ≡ k → number_of m.result.answer ≡ cond (too_long e (B e) (length (all ++ piece m))) 7 0
+  pub hmac-answers : (m : Add) → before m ≡ k → number_of m.result ≡ cond (too_long e (B e) (length (all ++ piece m))) 7 0
   hmac-answers m on =
       m.learnt.0.answer
       ∙ add-answers (before m) (piece m) (leads-sound (leads-same (leads t) on))
@@ -247,7 +259,7 @@ module _ {e : ℕ} {key all : List ℕ} {k : Keyed} (t : Taken e key all k) wher
         ∙ tag-answers m.args.0 m.args.1.0.now (leads-sound (leads-same (leads t) on))
         ∙ ap (λ (n : ℕ). cond (ltb (length m.args.1.0.now) (digest_bytes n)) 9 0) (leads-edition (leads-same (leads t) on))
 
-    pub hmac-pieces : m.result ≡ Answer.Done → (exit m).1.0.now ≡ at_front (hmac e key all) m.args.1.0.now
+    pub hmac-pieces : m.result ≡ Ok tt → (exit m).1.0.now ≡ at_front (hmac e key all) m.args.1.0.now
     hmac-pieces d =
         done-leaves {r = m.result} m.learnt.0 d
         ∙ ap (λ (tag : List ℕ). at_front tag m.args.1.0.now) (leads-tag (leads-same (leads t) on))

@@ -10,13 +10,15 @@ use denote.Triple.Clauses.{Ended, Lasts, at_exit}
 use denote.Triple.Entry.{Args, Res}
 use contract.Lifetimes.{Lfts}
 use Rattle.contracts.specs.Says.{Says, Made}
-use Rattle.answers.specs.declared.Answer.{Answer}
+use Rattle.std.specs.Prelude.{Result, Ok, Err}
+use Rattle.answers.specs.declared.Refusal.{Refusal}
+use Rattle.calls.specs.declared.Asked.{Asked}
 use Rattle.answers.specs.Judged.{Test, Lent, lent, first, after}
-use Rattle.answers.specs.Numbers.{number_of}
-use Rattle.answers.proofs.Outcome.{answers}
+use Rattle.answers.specs.Numbers.{Answer, number_of}
+use Rattle.answers.proofs.Outcome.{answers, refused, refusing-number}
 use Rattle.slices.specs.Below.{Below}
 use Rattle.calls.specs.Calls.{Call, lay_out, opening, adding, closing, saving, loading, asking, dropping, output_of, Lends, tests, leaves}
-use Rattle.calls.specs.Calls.{Told, nothing_told, tells, Outcome, Asks, Seen, Ran}
+use Rattle.calls.specs.Calls.{Told, told_of, nothing_told, tells, Outcome, Asks, Seen, Ran}
 use Rattle.calls.proofs.Words.{run-words}
 use Rattle.ledger.specs.Promise.{AllPassed}
 use Rattle.ledger.specs.Traces.{Doing, Trace, none, then}
@@ -26,7 +28,7 @@ use Rattle.ledger.proofs.Traces.{Faithful, code-faithful}
 -- ---- every number that a call can answer has its answer
 
 abbrev answer_at : ℕ → Answer
-answer_at n = get_or answers n Answer.Done
+answer_at n = get_or answers n (Ok tt)
 
 Named : List Test → Type 0
 Named [] = Unit {0}
@@ -97,6 +99,17 @@ module _ (t : List ℕ) (c : Call) where
 pub asked : (t : List ℕ) (i : ℕ) → Asks t i (number_of (answered t (asking i))) (says t (asking i))
 asked t i = record { answer = number-named t (asking i); leaves = refl }
 
+-- what an answer hands out of what is told
+abbrev handing : Answer → Told → Result Asked Refusal
+handing (Ok tt) s = Ok (record { edition = s.edition; count = s.count })
+handing (Err r) s = Err r
+
+-- a refusal hands out nothing, and nothing is told by it
+handing-asks : (t : List ℕ) (i : ℕ) (r : Answer) {s : Told} → Asks t i (number_of r) s → Asks t i (number_of (handing r s))
+    (told_of (handing r s))
+handing-asks t i (Ok tt) j = j
+handing-asks t i (Err r) j = refused (sym j.answer) (refusing-number r) refl
+
 -- a slice somewhere
 abbrev pub slice : List ℕ → Bor (List ℕ)
 slice xs = record { ref_ptr = (0, 0); now = xs }
@@ -152,8 +165,7 @@ code-some t (loading i bytes) l =
 code-some t (asking i) l =
     let c = asking i in
     some Did (ask-did
-    (call ([], tt) (slice t, (i, tt)) (record { answer = answered t c; edition = (says t c).edition; count = (says t c).count })
-    (tt, (tt, tt)) (asked t i, l)))
+    (call ([], tt) (slice t, (i, tt)) (handing (answered t c) (says t c)) (tt, (tt, tt)) (handing-asks t i (answered t c) (asked t i), l)))
 code-some t (dropping i) l =
     let c = dropping i in
     some Did (drop-did (call ([], tt) (lent_slice t, (i, tt)) (answered t c) ((left t c).table, (tt, tt)) (alone t c refl refl, l)))

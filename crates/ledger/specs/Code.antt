@@ -3,7 +3,7 @@
 use Rattle.std.specs.Prelude.{ℕ, List, []}
 use Rattle.contracts.specs.Says.{Made, exit}
 use Rattle.answers.specs.Numbers.{number_of}
-use Rattle.calls.specs.Calls.{Call, lay_out, opening, adding, closing, saving, loading, asking, dropping, Seen, told}
+use Rattle.calls.specs.Calls.{Call, lay_out, opening, adding, closing, saving, loading, asking, dropping, Seen, told_of}
 use Rattle.calls.specs.contracts.lay_out as lay-out
 use Rattle.calls.proofs.lay_out.Reads as lay-out-reads
 use Rattle.calls.specs.contracts.«open» as opn
@@ -39,6 +39,6 @@ pub data Did : List ℕ → Call → Seen → List ℕ → Type 0 where
       Did m.args.0.now (loading m.args.1.0 m.args.1.1.0.now) (shows (number_of m.result) []) (exit m).0.now
   ask-did : (m : Made ask.ended ask-reads.Learnt) →
       Did m.args.0.now (asking m.args.1.0)
-      (shows_told (number_of m.result.answer) (told m.result.edition m.result.count)) (exit m).0.now
+      (shows_told (number_of m.result) (told_of m.result)) (exit m).0.now
   drop-did : (m : Made drop.ended drop-reads.Learnt) →
       Did m.args.0.now (dropping m.args.1.0) (shows (number_of m.result) []) (exit m).0.now

@@ -7,6 +7,8 @@ use Rattle.lines.specs.contracts.text.append as append
 use Rattle.lines.proofs.text.append.Reads as append-reads
 use Rattle.lines.specs.contracts.line as line
 use Rattle.lines.proofs.line.Reads as line_reads_lem
+use Rattle.lines.specs.contracts.Why.words as words
+use Rattle.lines.proofs.Why.words.Reads as words-reads
 use Rattle.lines.specs.contracts.why_words as why-words
 use Rattle.lines.proofs.why_words.Reads as why-words-reads
 use Rattle.lines.specs.contracts.reason as reason
@@ -25,6 +27,9 @@ append-settled κs a r s x y = both-settled
 
 pub line-settled : Settles {A = ℕ × List ℕ} line.ended line_reads_lem.Learnt (λ κs r x. (r, x.1.1.1.0.now))
 line-settled κs a r s x y = both-settled
+
+pub words-settled : (v : List ℕ) → Settles words.ended (λ κs. words-reads.Learnt (v, κs)) (λ κs r x. r.now)
+words-settled v κs a r s x y = value-settled
 
 pub why-words-settled : Settles {A = ℕ × List ℕ} why-words.ended why-words-reads.Learnt (λ κs r x. (r, x.1.0.now))
 why-words-settled κs a r s x y = both-settled

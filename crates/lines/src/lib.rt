@@ -7,7 +7,7 @@ ghost use Rattle.std.specs.Prelude.{◌≡◌, ◌++◌};
 ghost use Rattle.fips.specs.Constants.{ascii};
 ghost use Rattle.lists.specs.Calls.{pair_in};
 ghost use Rattle.lines.specs.Lines.{verdict_word, line_of, why_words, reason_line, decimal, count_line, not_a_list};
-ghost use Rattle.lines.specs.Code.Counting.{one_more, counted};
+ghost use Rattle.lines.specs.Code.Counting.{counted};
 ghost use Rattle.lines.specs.Code.Putting.{Put};
 
 pub mod text; // text.rt: one text behind another in an output
@@ -17,7 +17,7 @@ use crate::text::append;
 // The bytes in which every line is whole.
 pub const ROOM: usize = 128;
 
-#[derive(Clone, Copy)]
+#[derive(Clone, Copy, Debug, PartialEq, Eq)]
 pub enum Verdict {
     // its bytes have the digest that is listed
     Ok,
@@ -28,7 +28,7 @@ pub enum Verdict {
 }
 
 // Why a file is missing.
-#[derive(Clone, Copy)]
+#[derive(Clone, Copy, Debug, PartialEq, Eq)]
 pub enum Why {
     // no file of that name is there
     NotThere,
@@ -41,7 +41,7 @@ pub enum Why {
 }
 
 // How many files were judged, and how many of them each way.
-#[derive(Clone, Copy)]
+#[derive(Clone, Copy, Debug, Default, PartialEq, Eq)]
 pub struct Tally {
     pub listed: u64,
     pub ok: u64,
@@ -49,13 +49,30 @@ pub struct Tally {
     pub missing: u64,
 }
 
-fn verdict_word(verdict: Verdict, out: &mut [u8]) -> usize
-    ensures { Put 0 (ascii (verdict_word verdict)) out.old result out.new }
-{
-    match verdict {
-        Verdict::Ok => append(out, 0, b"OK "),
-        Verdict::Bad => append(out, 0, b"BAD "),
-        Verdict::Missing(_) => append(out, 0, b"MISSING "),
+impl Verdict {
+    // The word that its line begins with, and a blank.
+    fn word(self) -> &'static [u8]
+        ensures { result.now ≡ ascii (verdict_word self) }
+    {
+        match self {
+            Verdict::Ok => b"OK ",
+            Verdict::Bad => b"BAD ",
+            Verdict::Missing(_) => b"MISSING ",
+        }
+    }
+}
+
+impl Why {
+    // What stands behind the name of a file that is missing, and the line's end.
+    pub fn words(self) -> &'static [u8]
+        ensures { result.now ≡ ascii (why_words self) }
+    {
+        match self {
+            Why::NotThere => b": not there\n",
+            Why::NoPermission => b": no permission\n",
+            Why::Folder => b": a folder\n",
+            Why::Failed => b": reading failed\n",
+        }
     }
 }
 
@@ -63,7 +80,7 @@ fn verdict_word(verdict: Verdict, out: &mut [u8]) -> usize
 pub fn line(verdict: Verdict, list: &[u8], i: usize, out: &mut [u8]) -> usize
     ensures { Put 0 (line_of verdict (pair_in i list.now).name) out.old result out.new }
 {
-    let at = verdict_word(verdict, out);
+    let at = append(out, 0, verdict.word());
     let end = append(out, at, lists::entries::name(list, i));
     append(out, end, b"\n")
 }
@@ -72,12 +89,7 @@ pub fn line(verdict: Verdict, list: &[u8], i: usize, out: &mut [u8]) -> usize
 pub fn why_words(why: Why, out: &mut [u8], at: usize) -> usize
     ensures { Put at (ascii (why_words why)) out.old result out.new }
 {
-    match why {
-        Why::NotThere => append(out, at, b": not there\n"),
-        Why::NoPermission => append(out, at, b": no permission\n"),
-        Why::Folder => append(out, at, b": a folder\n"),
-        Why::Failed => append(out, at, b": reading failed\n"),
-    }
+    append(out, at, why.words())
 }
 
 // Why the file of that number in a list is missing.
@@ -88,6 +100,7 @@ pub fn reason(why: Why, list: &[u8], i: usize, out: &mut [u8]) -> usize
     why_words(why, out, at)
 }
 
+#[tactic(auto, unfolding(fips::specs::Constants::ascii))]
 pub fn not_a_list(out: &mut [u8]) -> usize
     ensures { Put 0 not_a_list out.old result out.new }
 {
@@ -113,28 +126,27 @@ pub fn counts(tally: Tally, out: &mut [u8]) -> usize
     count(out, bad, tally.missing, b" missing\n")
 }
 
-fn more(n: u64) -> u64
-    ensures { result ≡ one_more n }
-{
-    std::num::wrapping_add_u64(n, 1)
-}
-
 // The verdict counted.
+#[tactic(auto, unfolding(crate::specs::Code::Counting::counted))]
 pub fn counted(tally: Tally, verdict: Verdict) -> Tally
     ensures { result ≡ counted tally verdict }
 {
-    let mut t = tally;
-    t.listed = more(t.listed);
+    let listed = tally.listed.wrapping_add(1);
     match verdict {
-        Verdict::Ok => {
-            t.ok = more(t.ok);
-        }
-        Verdict::Bad => {
-            t.bad = more(t.bad);
-        }
-        Verdict::Missing(_) => {
-            t.missing = more(t.missing);
-        }
+        Verdict::Ok => Tally {
+            listed,
+            ok: tally.ok.wrapping_add(1),
+            ..tally
+        },
+        Verdict::Bad => Tally {
+            listed,
+            bad: tally.bad.wrapping_add(1),
+            ..tally
+        },
+        Verdict::Missing(_) => Tally {
+            listed,
+            missing: tally.missing.wrapping_add(1),
+            ..tally
+        },
     }
-    t
 }

@@ -1,51 +1,48 @@
 -- Names that come one behind the other: those that are read are those that were written, each ended by a zero byte, `names-back`.
--- `before-turn`, `before-stop` and `before-end` are the loop that looks for a zero byte, `zeros-turn` the one that counts them.
-use Prim.Native.Nat.{ℕ, zero, suc, ◌+◌, ◌-◌, ◌≤◌, ◌<◌}
+-- `before-found` is where the library finds the first zero byte, `zeros-counted` how many it counts.
+use Prim.Native.Nat.{ℕ, zero, suc, ◌+◌, ◌-◌, ◌≤◌, min}
 use mathlib.Core.Bool.{Bool, true, false, not, cond}
 use mathlib.Core.List.{List, [], ◌∷◌, ◌++◌}
 use mathlib.Core.Path.{◌≡◌, refl, sym, ap, ◌∙◌}
 use native.Mathlib.Numerals.{unary_clauses}
 use native.Mathlib.Omega.{arith}
-use lib.Dec.{eqb}
-use lib.ListN.{length, get_or, take, drop, length-append, drop_of_length-le, length-drop}
-use lib.Seq.{drop-cons, drop-drop, take_all, take-append_seam, drop-append-add, get_or-append-add}
-use borrow.Author.Tests.{eq-eqb, ne_eqb, not-true}
+use lib.Dec.{eqb, ltb}
+use lib.ListN.{length, get_or, take, drop, length-append, length-drop}
+use lib.Seq.{drop-drop, take_all, take-append_seam, drop-append-add, get_or-append-add}
+use borrow.Author.Tests.{ltb-false, not-true}
+use Rattle.std.specs.Prelude.{unwrap_or}
+use Rattle.std.specs.List.{position, position_or_len, count_by}
+use Rattle.std.proofs.lemmas.List.Recursion.{is_position_or_len, is_count_by}
+use Rattle.std.proofs.lemmas.List.Sums.{prefix_len-le-length}
 use Rattle.slices.specs.Tests.{every}
 use Rattle.slices.proofs.Tests.{cond_both}
+use Rattle.slices.proofs.Parts.{drop-within}
 use Rattle.listing.specs.Names.{ending, without_zero, before_zero, behind_zero, is_zero, name_in, names_from, name_place, zeros, ended}
 
--- ---- the loops: what is left from i decides
+-- ---- what the library finds and counts
 
-module _ (bs : List ℕ) (i : ℕ) where
-  pub before-turn : i < length bs → (get_or bs i 0 ≡ 0 → ⊥) → before_zero bs ≡ i + before_zero (drop i bs) →
-      before_zero bs ≡ suc i + before_zero (drop (suc i) bs)
-  unfolding before_zero
-  before-turn h z e = e ∙ rw (drop-cons bs i 0 h, ne_eqb (get_or bs i 0) 0 z) (omega arith)
+before-first : (bs : List ℕ) → before_zero bs ≡ position_or_len (λ b. eqb b 0) bs
+unfolding before_zero
+before-first bs = is_position_or_len before_zero (λ b. eqb b 0) refl (λ x xs. ap (λ (n : ℕ). cond (eqb x 0) 0 n) (omega arith)) bs
 
-  pub before-stop : i < length bs → get_or bs i 0 ≡ 0 → before_zero bs ≡ i + before_zero (drop i bs) → i ≡ before_zero bs
-  unfolding before_zero
-  before-stop h z e = sym (e ∙ rw (drop-cons bs i 0 h, eq-eqb (get_or bs i 0) 0 z) (omega arith))
+pub before-within : (bs : List ℕ) → before_zero bs ≤ length bs
+before-within bs = rw (before-first bs) (prefix_len-le-length _ bs)
 
-  pub before-end : length bs ≤ i → before_zero bs ≡ i + before_zero (drop i bs) → i ≡ before_zero bs
-  unfolding before_zero
-  before-end h e = sym (e ∙ rw (drop_of_length-le bs {i = i} h) (omega arith))
-
-  pub zeros-turn : (n r : ℕ) → i < length bs → r ≡ is_zero (get_or bs i 0) → zeros bs ≡ n + zeros (drop i bs) →
-      zeros bs ≡ n + r + zeros (drop (suc i) bs)
-  unfolding zeros
-  zeros-turn n r h is e = e ∙ rw (drop-cons bs i 0 h, is) (omega arith)
-
-  pub zeros-end : (n : ℕ) → length bs ≤ i → zeros bs ≡ n + zeros (drop i bs) → n ≡ zeros bs
-  unfolding zeros
-  zeros-end n h e = sym (e ∙ rw (drop_of_length-le bs {i = i} h) (omega arith))
-
-pub at_most_one : (r b : ℕ) → r ≡ is_zero b → r ≤ 1
-unfolding is_zero
-at_most_one r b e = go (eqb b 0) e
+-- the place of the first zero, or the end
+pub before-found : (bs : List ℕ) → unwrap_or (position (λ b. eqb b 0) bs) (length bs) ≡ before_zero bs
+before-found bs = go (ltb (before_zero bs) (length bs)) refl
   where
-    go : (t : Bool) → r ≡ cond t 1 0 → r ≤ 1
-    go true h = omega arith
-    go false h = omega arith
+    go : (t : Bool) → ltb (before_zero bs) (length bs) ≡ t → unwrap_or (position (λ b. eqb b 0) bs) (length bs) ≡ before_zero bs
+    go true e = rw (← before-first bs, e)
+    go false e = rw (← before-first bs, e) (omega (arith, before-within bs, ltb-false (before_zero bs) (length bs) e))
+
+pub zeros-counted : (bs : List ℕ) → zeros bs ≡ count_by (λ b. eqb b 0) bs
+unfolding zeros is_zero
+zeros-counted bs = is_count_by zeros (λ b. eqb b 0) refl (λ x xs. go (eqb x 0) (zeros xs)) bs
+  where
+    go : (t : Bool) (n : ℕ) → cond t 1 0 + n ≡ cond t (1 + n) n
+    go true n = omega arith
+    go false n = omega arith
 
 -- ---- where the next name begins
 
@@ -53,37 +50,31 @@ at_most_one r b e = go (eqb b 0) e
 pub lent : (bs : List ℕ) (at : ℕ) → take (length bs - at) (drop at bs) ≡ drop at bs
 lent bs at = take_all (length bs - at) (drop at bs) (omega (arith, length-drop at bs))
 
-module _ (bs : List ℕ) (at n : ℕ) (e : n ≡ before_zero (drop at bs)) where
-  pub next-name : drop (at + n + 1) bs ≡ behind_zero (drop at bs)
-  next-name =
-      let sum : at + n + 1 ≡ at + suc (before_zero (drop at bs)) = omega (arith, e) in
-      rw sum (sym (drop-drop (suc (before_zero (drop at bs))) at bs))
+-- behind the zero byte, or at the end
+pub next-name : (bs : List ℕ) (at n : ℕ) → n ≡ before_zero (drop at bs) →
+    drop (min (at + n + 1) (length bs)) bs ≡ behind_zero (drop at bs)
+next-name bs at n e =
+    let sum : at + n + 1 ≡ at + suc (before_zero (drop at bs)) = omega (arith, e) in
+    drop-within (at + n + 1) bs ∙ rw sum (sym (drop-drop (suc (before_zero (drop at bs))) at bs))
 
-  pub no_more : length bs ≤ at + n → drop (at + n) bs ≡ behind_zero (drop at bs)
-  no_more h =
-      drop_of_length-le bs {i = at + n} h
-      ∙ sym (drop_of_length-le (drop at bs) {i = suc (before_zero (drop at bs))} (omega (arith, length-drop at bs)))
-
-pub name-turn : (left m : ℕ) (bs rest : List ℕ) → left ≡ suc m → rest ≡ behind_zero bs → name_in left bs ≡ name_in m rest
-unfolding name_in
-name-turn left m bs rest h e = rw (h, e)
-
-pub from-turn : (left m : ℕ) (bs rest : List ℕ) → left ≡ suc m → rest ≡ behind_zero bs → names_from left bs ≡ names_from m rest
+-- one name more is passed over
+pub from-next : (i : ℕ) (bs : List ℕ) → names_from (suc i) bs ≡ behind_zero (names_from i bs)
 unfolding names_from
-from-turn left m bs rest h e = rw (h, e)
+from-next zero bs = refl
+from-next (suc i) bs = from-next i (behind_zero bs)
 
--- the name at a place, which is the one of number i in all
-pub name-here : (bs : List ℕ) (i at left n : ℕ) → left ≡ 0 → n ≡ before_zero (take (length bs - at) (drop at bs)) →
-    name_in i bs ≡ name_in left (drop at bs) → take n (drop at bs) ≡ name_in i bs
-unfolding name_in
-name-here bs i at left n z e h = sym (h ∙ rw (z, e, lent bs at))
+name-from : (i : ℕ) (bs : List ℕ) → name_in i bs ≡ take (before_zero (names_from i bs)) (names_from i bs)
+unfolding name_in names_from
+name-from zero bs = refl
+name-from (suc i) bs = name-from i (behind_zero bs)
 
-pub place_here : (bs : List ℕ) (i at left : ℕ) → left ≡ 0 → at ≤ length bs → names_from i bs ≡ names_from left (drop at bs) →
-    at ≡ name_place i bs
-unfolding names_from
-place_here bs i at left z h e =
-    let rest : names_from i bs ≡ drop at bs = e ∙ rw z in
-    rw rest (omega (arith, length-drop at bs))
+-- the name at a place from where it is the first one
+pub name-here : (bs : List ℕ) (i at n : ℕ) → n ≡ before_zero (take (length bs - at) (drop at bs)) → drop at bs ≡ names_from i bs →
+    take n (drop at bs) ≡ name_in i bs
+name-here bs i at n e h = rw (e, lent bs at, h) (sym (name-from i bs))
+
+pub place_here : (bs : List ℕ) (i at : ℕ) → at ≤ length bs → drop at bs ≡ names_from i bs → at ≡ name_place i bs
+place_here bs i at h e = rw (← e) (omega (arith, length-drop at bs))
 
 -- ---- names written and read
 

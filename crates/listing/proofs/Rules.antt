@@ -7,41 +7,41 @@ use mathlib.Core.Path.{◌≡◌, refl, sym, ap}
 use native.Mathlib.Omega.{arith}
 use lib.Dec.{eqb, ltb}
 use lib.ListN.{length}
+use Rattle.std.specs.Prelude.{Result, Ok, Err}
 use borrow.Author.Tests.{ltb-true, ltb-false, leb-true, eqb-true, lt-ltb, le-ltb, le-leb, lt-leb}
 use Rattle.slices.proofs.Tests.{fails-at, holds_at}
 use Rattle.lists.specs.Lists.{most_entries, longest_name, name_allowed}
 use Rattle.listing.specs.declared.Reason.{Reason}
-use Rattle.listing.specs.declared.Step.{Step}
 use Rattle.listing.specs.Rules.{judged, answered}
 
 module _ (name : List ℕ) (before : ℕ) where
-  pub is-empty : length name < 1 → Step.Refused Reason.Empty ≡ judged name before
+  pub is-empty : length name < 1 → Err Reason.Empty ≡ judged name before
   unfolding judged
   is-empty h = rw (lt-ltb (length name) 1 h)
 
-  pub is-long : 1 ≤ length name → longest_name < length name → Step.Refused Reason.Long ≡ judged name before
+  pub is-long : 1 ≤ length name → longest_name < length name → Err Reason.Long ≡ judged name before
   unfolding judged
   is-long g h = rw (le-ltb (length name) 1 g, lt-ltb longest_name (length name) h)
 
   module _ (some : 1 ≤ length name) (short : length name ≤ longest_name) where
-    pub has-byte : name_allowed name ≡ false → Step.Refused Reason.Byte ≡ judged name before
+    pub has-byte : name_allowed name ≡ false → Err Reason.Byte ≡ judged name before
     unfolding judged
     has-byte a = rw (le-ltb (length name) 1 some, le-ltb longest_name (length name) short, a)
 
     module _ (a : name_allowed name ≡ true) where
-      pub is-full : most_entries ≤ before → Step.Refused Reason.Full ≡ judged name before
+      pub is-full : most_entries ≤ before → Err Reason.Full ≡ judged name before
       unfolding judged
       is-full h = rw (le-ltb (length name) 1 some, le-ltb longest_name (length name) short, a, le-leb most_entries before h)
 
-      pub is-fine : before < most_entries → Step.Done ≡ judged name before
+      pub is-fine : before < most_entries → Ok tt ≡ judged name before
       unfolding judged
       is-fine h = rw (le-ltb (length name) 1 some, le-ltb longest_name (length name) short, a, lt-leb most_entries before h)
 
 -- ---- the rule for names
 
-abbrev pub is_done : Step → Bool
-is_done Step.Done = true
-is_done (Step.Refused r) = false
+abbrev pub is_done : Result Unit Reason → Bool
+is_done (Ok a) = true
+is_done (Err r) = false
 
 some_bytes : (name : List ℕ) → name_allowed name ≡ true → 1 ≤ length name
 unfolding name_allowed
@@ -75,25 +75,25 @@ judged-allowed name before few = by_length (ltb (length name) 1) refl (ltb longe
     by_length false e false f = by-rule (ltb-false (length name) 1 e) (ltb-false longest_name (length name) f) (name_allowed name) refl
 
 pub judged-full : (name : List ℕ) (before : ℕ) → name_allowed name ≡ true → most_entries ≤ before →
-    judged name before ≡ Step.Refused Reason.Full
+    judged name before ≡ Err Reason.Full
 judged-full name before a h = sym (is-full name before (some_bytes name a) (few_bytes name a) a h)
 
 -- ---- what a put answered
 
 -- done says 0, and refused says another number
-pub answered-done : (n : ℕ) → answered n ≡ Step.Done → n ≡ 0
+pub answered-done : (n : ℕ) → answered n ≡ Ok tt → n ≡ 0
 unfolding answered
 answered-done n h = go (eqb n 0) refl (eqb n 16) refl (eqb n 17) refl h
   where
     go : (a : Bool) → eqb n 0 ≡ a → (b : Bool) → eqb n 16 ≡ b → (c : Bool) → eqb n 17 ≡ c →
-        cond a Step.Done (cond b (Step.Refused Reason.Twice) (cond c (Step.Refused Reason.Full) (Step.Refused Reason.Unfit))) ≡ Step.Done →
+        cond {A = Result Unit Reason} a (Ok tt) (cond b (Err Reason.Twice) (cond c (Err Reason.Full) (Err Reason.Unfit))) ≡ Ok tt →
         n ≡ 0
     go true e b f c g k = eqb-true n 0 e
     go false e true f c g k = absurd (false≢true (ap is_done k))
     go false e false f true g k = absurd (false≢true (ap is_done k))
     go false e false f false g k = absurd (false≢true (ap is_done k))
 
-pub answered-refused : (n : ℕ) (r : Reason) → answered n ≡ Step.Refused r → 0 < n
+pub answered-refused : (n : ℕ) (r : Reason) → answered n ≡ Err r → 0 < n
 unfolding answered
 answered-refused zero r h = absurd (false≢true (sym (ap is_done h)))
 answered-refused (suc n) r h = omega arith

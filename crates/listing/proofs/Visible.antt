@@ -1,15 +1,17 @@
 -- A name as it is shown: each byte of it is one that prints and no blank, `shown-visible`, and it is at most four times as long as the
 -- name, `shown-short`. `shown-more` is the loop that shows byte by byte.
 use Prim.Native.Nat.{ℕ, suc, ◌+◌, ◌*◌, ◌/◌, ◌%◌, ◌≤◌, ◌<◌, min}
-use mathlib.Core.Bool.{Bool, true, false, cond}
+use Rattle.std.specs.Prelude.{◌&&◌}
+use mathlib.Core.Bool.{Bool, true, false, not, cond}
 use mathlib.Core.List.{List, [], ◌∷◌, ◌++◌, append_assoc, append-nil}
 use mathlib.Core.Path.{◌≡◌, refl, sym, ap, ◌∙◌}
 use native.Mathlib.Nat.{mod-lt}
 use native.Mathlib.Omega.{arith}
-use lib.Dec.{ltb}
+use lib.Dec.{eqb, leb, ltb}
 use lib.ListN.{length, get_or, take, drop, length-append, take-append-drop}
 use lib.Seq.{take-suc, take-nil}
 use borrow.Author.Tests.{le-leb, ltb-true, ltb-false}
+use Rattle.std.specs.Char.{is_ascii_graphic}
 use Rattle.slices.specs.AtFront.{at_front}
 use Rattle.slices.specs.Below.{Bytes}
 use Rattle.slices.specs.Tests.{holds, every}
@@ -19,6 +21,16 @@ use Rattle.lines.specs.Code.Putting.{put, Put}
 use Rattle.listing.specs.Shown.{plain, hex_digit, shown_byte, shown}
 
 -- ---- one byte
+
+pub plain-graphic : (b : ℕ) → plain b ≡ (is_ascii_graphic b && not (eqb b 0x5c))
+unfolding plain holds
+plain-graphic b = go (leb 0x21 b) (leb b 0x7e) (not (eqb b 0x5c))
+  where
+    go : (p q r : Bool) → holds (p ∷ q ∷ r ∷ []) ≡ (p && q && r)
+    go true true true = refl
+    go true true false = refl
+    go true false r = refl
+    go false q r = refl
 
 pub itself : (b : ℕ) → plain b ≡ true → b ∷ [] ≡ shown_byte b
 unfolding shown_byte

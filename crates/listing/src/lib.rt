@@ -10,11 +10,11 @@ ghost use Rattle.std.specs.Prelude.{◌≡◌};
 ghost use Rattle.answers.specs.Numbers.{number_of};
 ghost use Rattle.listing.specs.Rules.{judged, answered};
 
-use answers::Answer;
+use answers::{Answer, Refusal};
 use lines::Why;
 
 // Why a name is not listed.
-#[derive(Drop)]
+#[derive(Clone, Copy, Debug, PartialEq, Eq)]
 pub enum Reason {
     // 15: it has no bytes
     Empty,
@@ -36,40 +36,35 @@ pub enum Reason {
     Unfit,
 }
 
-// Whether a name is listed.
-#[derive(Drop)]
-pub enum Step {
-    Done,
-    Refused(Reason),
-}
-
 // A name before which so many came: by the rules 15 and 17, in this order, before its file is opened.
-pub fn judge(name: &[u8], before: usize) -> Step
+pub fn judge(name: &[u8], before: usize) -> Result<(), Reason>
     ensures { result ≡ judged name.now before }
 {
-    if name.len() < 1 {
-        return Step::Refused(Reason::Empty);
+    if name.is_empty() {
+        return Err(Reason::Empty);
     }
     if lists::names::LONGEST < name.len() {
-        return Step::Refused(Reason::Long);
+        return Err(Reason::Long);
     }
     if !lists::names::allowed(name) {
-        return Step::Refused(Reason::Byte);
+        return Err(Reason::Byte);
     }
     if lists::MOST_ENTRIES <= before {
-        return Step::Refused(Reason::Full);
+        return Err(Reason::Full);
     }
-    Step::Done
+    Ok(())
 }
 
 // What the answer of a put says of a name that was judged.
-pub fn answered(answer: Answer) -> Step
+pub fn answered(answer: Answer) -> Result<(), Reason>
     ensures { result ≡ answered (number_of answer) }
 {
-    match answers::number(answer) {
-        0 => Step::Done,
-        16 => Step::Refused(Reason::Twice),
-        17 => Step::Refused(Reason::Full),
-        _ => Step::Refused(Reason::Unfit),
+    match answer {
+        Ok(()) => Ok(()),
+        Err(refusal) => match refusal {
+            Refusal::NameTaken => Err(Reason::Twice),
+            Refusal::ListFull => Err(Reason::Full),
+            _ => Err(Reason::Unfit),
+        },
     }
 }

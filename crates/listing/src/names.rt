@@ -1,7 +1,7 @@
 // Names that come one behind the other, each ended by a zero byte. By `names-back` they are the names that were written so.
 ghost use Rattle.std.specs.Prelude.{◌≡◌, ◌≤◌, length, drop};
 ghost use Rattle.slices.specs.Parts.{LiesAt};
-ghost use Rattle.listing.specs.Names.{before_zero, behind_zero, is_zero, name_in, name_place, zeros, ended};
+ghost use Rattle.listing.specs.Names.{before_zero, behind_zero, name_in, name_place, zeros, ended};
 
 use slices::places::part;
 
@@ -9,14 +9,7 @@ use slices::places::part;
 fn before_zero(bytes: &[u8]) -> usize
     ensures { (result ≡ before_zero bytes.now) × (result ≤ length bytes.now) }
 {
-    let mut i = 0;
-    while i < bytes.len() {
-        if bytes[i] == 0 {
-            return i;
-        }
-        i += 1;
-    }
-    i
+    bytes.iter().position(|b| *b == 0).unwrap_or(bytes.len())
 }
 
 // Where the next name begins, for one that begins at a place: behind its zero byte, or at the end.
@@ -25,29 +18,14 @@ fn behind_zero(input: &[u8], at: usize) -> usize
     ensures { (result ≤ length input.now) × (drop result input.now ≡ behind_zero (drop at input.now)) }
 {
     let end = at + before_zero(&input[at..]);
-    if end < input.len() {
-        return end + 1;
-    }
-    end
-}
-
-fn one_if_zero(b: u8) -> usize
-    ensures { result ≡ is_zero b }
-{
-    if b == 0 { 1 } else { 0 }
+    (end + 1).min(input.len())
 }
 
 // How many names there are.
 pub fn count(input: &[u8]) -> usize
     ensures { result ≡ zeros input.now }
 {
-    let mut n = 0;
-    let mut i = 0;
-    while i < input.len() {
-        n += one_if_zero(input[i]);
-        i += 1;
-    }
-    n
+    input.iter().filter(|b| **b == 0).count()
 }
 
 // The name of that number, counted from 0, where it stands. Behind the last one it is what no zero byte ends, and then it is empty.
@@ -56,20 +34,16 @@ pub fn name(input: &[u8], i: usize) -> &[u8]
     ensures lies_at { LiesAt result input.entry (name_place i input.now) }
 {
     let mut at = 0;
-    let mut left = i;
-    while 0 < left {
+    for _ in 0..i {
         at = behind_zero(input, at);
-        left -= 1;
     }
     part(input, at, before_zero(&input[at..]))
 }
 
 // Whether every name is ended.
+#[tactic(auto, unfolding(crate::specs::Names::ended))]
 pub fn all_ended(input: &[u8]) -> bool
     ensures { result ≡ ended input.now }
 {
-    if input.len() == 0 {
-        return true;
-    }
-    input[input.len() - 1] == 0
+    matches!(input.last(), None | Some(0))
 }

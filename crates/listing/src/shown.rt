@@ -5,26 +5,19 @@ ghost use Rattle.lines.specs.Code.Putting.{Put};
 ghost use Rattle.listing.specs.Shown.{plain, hex_digit, shown_byte, shown};
 
 use lines::text::append;
-use slices::places::least;
 
 // Whether the byte shows itself.
 fn is_plain(b: u8) -> bool
     ensures { result ≡ plain b }
 {
-    if b < 0x21 {
-        return false;
-    }
-    if 0x7e < b {
-        return false;
-    }
-    b != 0x5c
+    b.is_ascii_graphic() && b != b'\\'
 }
 
 fn hex_digit(n: u8) -> u8
     requires { n < 16 }
     ensures { result ≡ hex_digit n }
 {
-    if n < 10 { 48 + n } else { 87 + n }
+    if n < 10 { b'0' + n } else { b'a' + (n - 10) }
 }
 
 fn put_byte(b: u8, out: &mut [u8], at: usize) -> usize
@@ -33,18 +26,20 @@ fn put_byte(b: u8, out: &mut [u8], at: usize) -> usize
     if is_plain(b) {
         return append(out, at, &[b]);
     }
-    append(out, at, &[0x5c, 0x78, hex_digit(b / 16), hex_digit(b % 16)])
+    append(
+        out,
+        at,
+        &[b'\\', b'x', hex_digit(b / 16), hex_digit(b % 16)],
+    )
 }
 
 // Puts it at a place, and answers the place behind it.
 pub fn put_shown(name: &[u8], out: &mut [u8], at: usize) -> usize
     ensures { Put at (shown name.now) out.old result out.new }
 {
-    let mut end = least(at, out.len());
-    let mut i = 0;
-    while i < name.len() {
-        end = put_byte(name[i], out, end);
-        i += 1;
+    let mut end = at.min(out.len());
+    for b in name {
+        end = put_byte(*b, out, end);
     }
     end
 }

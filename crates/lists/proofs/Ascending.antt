@@ -12,7 +12,7 @@ use lib.Dec.{eqb, ltb, leb-suc-suc}
 use lib.ListN.{length, get_or, drop, drop_of_length-le}
 use lib.Seq.{drop-cons}
 use borrow.Author.Tests.{lt-ltb, le-ltb, ltb-true, ltb-false, eq-eqb, ne_eqb, eqb-true, eqb-false}
-use Rattle.slices.specs.Tests.{same}
+use Rattle.slices.specs.Tests.{same, same_by}
 use Rattle.lists.specs.Order.{before}
 use Rattle.lists.specs.Lists.{Pair, ascending}
 use Rattle.slices.proofs.Tests.{cond_both}
@@ -60,7 +60,7 @@ before-trans (x ∷ xs) (y ∷ ys) (z ∷ zs) p q =
 
 -- of two lists one comes before the other, unless they are the same
 pub before-or : (xs ys : List ℕ) → same xs ys ≡ false → before xs ys ≡ false → before ys xs ≡ true
-unfolding before same
+unfolding before same_by
 before-or [] [] s b = absurd (true≢false s)
 before-or [] (y ∷ ys) s b = absurd (true≢false b)
 before-or (x ∷ xs) [] s b = refl

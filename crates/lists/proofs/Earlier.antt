@@ -8,10 +8,16 @@ use native.Mathlib.Omega.{arith}
 use lib.Dec.{leb, leb-suc-suc}
 use lib.ListN.{length, get_or}
 use borrow.Author.Tests.{lt-leb}
+use Rattle.std.specs.Prelude.{Result, Ok, Err, is_ok}
+use Rattle.answers.proofs.Outcome.{refusal-injective}
+use Rattle.answers.proofs.Refusals.{refuses}
+use Rattle.answers.specs.declared.Refusal.{Refusal}
+use Rattle.answers.specs.Numbers.{number_of}
 use Rattle.slices.specs.Tests.{same}
 use Rattle.slices.proofs.Tests.{cond_both, same-apart}
 use Rattle.lists.specs.Calls.{listed, pair_in}
-use Rattle.lists.specs.Code.Place.{earlier}
+use Rattle.lists.specs.declared.Placing.{Placing}
+use Rattle.lists.specs.Code.Place.{earlier, earlier_of, listed_of, Placed}
 use Rattle.lists.specs.Layout.{count_in, digest_size_in, read_list, accepted}
 use Rattle.lists.specs.Lists.{Pair, ascending}
 use Rattle.lists.specs.Order.{before}
@@ -67,3 +73,18 @@ listed-entry bs name a =
     ap (λ (n : ℕ). cond (leb n (earlier name (read_list bs).pairs)) false (same (pair_in (earlier name (read_list bs).pairs) bs).name name))
     (sym (length-read_pairs (count_in bs) (digest_size_in bs) _ bs))
     ∙ listed_at name [] (read_list bs).pairs (record { name = []; digest = [] }) (valid-list (read_list bs) (accepted-valid bs a)).ascends
+
+-- ---- what one reading answers
+
+-- the refusal, or how many names come before the name and whether it is there, which the number and `Placed` settle
+pub place-same : {bs name : List ℕ} {n : ℕ} (r s : Result Placing Refusal) → number_of r ≡ n → number_of s ≡ n →
+    Placed bs name (is_ok r) (earlier_of r) (listed_of r) →
+    Placed bs name (is_ok s) (earlier_of s) (listed_of s) →
+    r ≡ s
+place-same (Ok p) (Ok q) e f j k =
+    let n = j.place ∙ sym k.place in
+    let has = j.names ∙ sym k.names in
+    λ i. Ok (record { earlier = n i; listed = has i })
+place-same (Ok p) (Err t) e f j k = absurd (omega (arith, refuses {A = Placing} (Err t) t refl, e, f))
+place-same (Err t) (Ok q) e f j k = absurd (omega (arith, refuses {A = Placing} (Err t) t refl, e, f))
+place-same (Err t) (Err u) e f j k = ap Err (refusal-injective t u (e ∙ sym f))

@@ -1,66 +1,80 @@
--- What looking for a name answers. Number and place settle the case, `find-same`, and it is `found`: `finds-is`, `is_found`.
--- What each of the three answers says of a list and a name: `found_at`, `found_nowhere`, `found-no-list`. The place that is told is within
--- the list, and the part there is `listed_digest`.
+-- What looking for a name answers. Number and place settle the answer, `find-same`, and it is `found`: `finds-is`, `is_found`.
+-- What an answer says of a list and a name: `found_at`, the place that is told is within the list, and the part there is `listed_digest`;
+-- `found_none`, where it refuses, that digest has no bytes.
 use mathlib.Core.Bool.{Bool, true, false, cond, not, false≢true}
 use mathlib.Core.List.{List, [], ◌∷◌}
 use mathlib.Core.Path.{◌≡◌, refl, sym, ap, subst, ◌∙◌}
-use Prim.Native.Nat.{ℕ, zero, suc, ◌+◌, ◌*◌, ◌≤◌}
+use Prim.Native.Nat.{ℕ, zero, suc, ◌+◌, ◌*◌, ◌<◌, ◌≤◌}
 use native.Mathlib.Nat.{suc-mul}
 use native.Mathlib.Omega.{arith}
-use lib.Dec.{eqb}
 use lib.ListN.{length, drop}
 use lib.Seq.{drop-drop}
-use Rattle.answers.proofs.Outcome.{outcome-settled}
-use Rattle.answers.specs.Judged.{◌when◌, first, after, Judged}
+use Rattle.std.specs.Prelude.{Result, Ok, Err}
+use Rattle.answers.proofs.Outcome.{handed-settled}
+use Rattle.answers.proofs.Refusals.{refuses, done_first, done-leaves, judged-map}
+use Rattle.answers.specs.declared.Refusal.{Refusal}
+use Rattle.answers.specs.Judged.{◌when◌, first, handed, Judged}
+use Rattle.answers.specs.Numbers.{number_of}
 use Rattle.lists.specs.declared.Found.{Found}
-use Rattle.lists.specs.Calls.{listed, digest_in, listed_digest, place_in, listed_place, Spot, spot, no_spot, found_number, found_spot}
-use Rattle.lists.specs.Calls.{find_tests, Finds}
+use Rattle.lists.specs.Calls.{listed, digest_in, listed_digest, place_in, listed_place, Spot, spot, no_spot, found_spot, find_tests, Finds}
 use Rattle.slices.specs.Parts.{part}
 use Rattle.slices.specs.Tests.{same}
 use Rattle.lists.specs.Layout.{entries_at, entry_head, entry_size, pair_at, count_in, digest_size_in, read_pairs, read_list, accepted}
 use Rattle.lists.specs.Lists.{Pair}
 use Rattle.lists.proofs.ByRules.{accepted-header}
 
--- ---- the case that is answered
+-- ---- what is answered
+
+abbrev pub found_here : ℕ → ℕ → Result Found Refusal
+found_here at d = Ok (record { start = at; len = d })
+
+abbrev pub not_listed : Result Found Refusal
+not_listed = Err Refusal.NotListed
 
 -- among pairs whose entries, with digests of d bytes, start at the offset given
-abbrev pub found_in : List ℕ → ℕ → ℕ → List Pair → Found
-found_in name d at ps = cond (listed name ps) (Found.At (place_in name d at ps) d) Found.NotListed
+abbrev pub found_in : List ℕ → ℕ → ℕ → List Pair → Result Found Refusal
+found_in name d at ps = cond (listed name ps) (found_here (place_in name d at ps) d) not_listed
 
-unfoldable pub found : List ℕ → List ℕ → Found
-found bs name = cond (accepted bs) (found_in name (digest_size_in bs) entries_at (read_list bs).pairs) Found.NotAList
+unfoldable pub found : List ℕ → List ℕ → Result Found Refusal
+found bs name = cond (accepted bs) (found_in name (digest_size_in bs) entries_at (read_list bs).pairs) (Err Refusal.NotAList)
 
-finds-found : (bs name : List ℕ) → Finds bs name (found_number (found bs name)) (found_spot (found bs name))
+finds-found : (bs name : List ℕ) → Finds bs name (number_of (found bs name)) (found_spot (found bs name))
 unfolding found find_tests first listed_place
 finds-found bs name = go (accepted bs) (listed name (read_list bs).pairs) (listed_place bs name) (digest_size_in bs)
   where
     go : (a l : Bool) (at d : ℕ) →
-        let f = cond a (cond l (Found.At at d) Found.NotListed) Found.NotAList in
-        Judged (12 when not a ∷ 13 when not l ∷ []) no_spot (spot at d) (found_number f) (found_spot f)
+        let f : Result Found Refusal =
+        cond a (cond l (found_here at d) not_listed) (Err Refusal.NotAList) in
+        Judged (12 when not a ∷ 13 when not l ∷ []) no_spot (spot at d) (number_of f) (found_spot f)
     go true true at d = record { answer = refl; leaves = refl }
     go true false at d = record { answer = refl; leaves = refl }
     go false l at d = record { answer = refl; leaves = refl }
 
 module _ (bs name : List ℕ) where
-  abbrev pub Answers : Found → Type 0
-  Answers r = Finds bs name (found_number r) (found_spot r)
+  abbrev pub Answers : Result Found Refusal → Type 0
+  Answers r = Finds bs name (number_of r) (found_spot r)
 
-  pub is_found : (r : Found) → r ≡ found bs name → Answers r
+  pub is_found : (r : Result Found Refusal) → r ≡ found bs name → Answers r
   is_found r p = subst Answers (sym p) (finds-found bs name)
 
-  case_of : ℕ → Spot → Found
-  case_of n s = cond (eqb n 0) (Found.At s.at s.length) (cond (eqb n 12) Found.NotAList Found.NotListed)
+  found_of : Spot → Found
+  found_of s = record { start = s.at; len = s.length }
 
-  case-of : (r : Found) → case_of (found_number r) (found_spot r) ≡ r
-  unfolding case_of
-  case-of (Found.At start len) = refl
-  case-of Found.NotListed = refl
-  case-of Found.NotAList = refl
+  handed-out : (r : Result Found Refusal) → found_of (found_spot r) ≡ handed (found_of no_spot) r
+  unfolding found_of
+  handed-out (Ok f) = refl
+  handed-out (Err r) = refl
 
-  pub find-same : (r s : Found) → Answers r → Answers s → r ≡ s
-  find-same r s j k = let o = outcome-settled j k in sym (case-of r) ∙ (λ i. case_of (o.0 i) (o.1 i)) ∙ case-of s
+  settles : (r : Result Found Refusal) → Answers r →
+      Judged (find_tests bs name) (found_of no_spot) (found_of (spot (listed_place bs name) (digest_size_in bs)))
+      (number_of r)
+      (handed (found_of no_spot) r)
+  settles r j = rw (← handed-out r) (judged-map found_of j)
 
-  pub finds-is : (r : Found) → Answers r → r ≡ found bs name
+  pub find-same : (r s : Result Found Refusal) → Answers r → Answers s → r ≡ s
+  find-same r s j k = handed-settled r s (settles r j) (settles s k)
+
+  pub finds-is : (r : Result Found Refusal) → Answers r → r ≡ found bs name
   finds-is r j = find-same r (found bs name) j (finds-found bs name)
 
 -- ---- the place of a name that is listed
@@ -89,55 +103,7 @@ place-within (suc n) d at name bs h e =
         record { inside = omega arith; here = rw (drop-drop entry_head at bs) }
     go false e rest = rw (drop-drop (entry_size d) at bs) (rest (rw (drop-drop (entry_size d) at bs) at e))
 
--- ---- the three answers
-
-module _ (bs name : List ℕ) {r : Found} (j : Answers bs name r) where
-  pub answered : {f : Found} → r ≡ f → Answers bs name f
-  answered p = subst (Answers bs name) p j
-
-  pub found-no-list : r ≡ Found.NotAList → accepted bs ≡ false
-  unfolding find_tests first
-  found-no-list p = go (accepted bs) (listed name (read_list bs).pairs) (answered p).answer
-    where
-      go : (a l : Bool) → 12 ≡ first (12 when not a ∷ 13 when not l ∷ []) → a ≡ false
-      go true true e = absurd (omega arith)
-      go true false e = absurd (omega arith)
-      go false l e = refl
-
-  pub found_nowhere : r ≡ Found.NotListed → (accepted bs ≡ true) × (listed name (read_list bs).pairs ≡ false)
-  unfolding find_tests first
-  found_nowhere p = go (accepted bs) (listed name (read_list bs).pairs) (answered p).answer
-    where
-      go : (a l : Bool) → 13 ≡ first (12 when not a ∷ 13 when not l ∷ []) → (a ≡ true) × (l ≡ false)
-      go true true e = absurd (omega arith)
-      go true false e = (refl, refl)
-      go false l e = absurd (omega arith)
-
-  module _ {start len : ℕ} (p : r ≡ Found.At start len) where
-    pub found-listed : (accepted bs ≡ true) × (listed name (read_list bs).pairs ≡ true)
-    unfolding find_tests first
-    found-listed = go (accepted bs) (listed name (read_list bs).pairs) (answered p).answer
-      where
-        go : (a l : Bool) → 0 ≡ first (12 when not a ∷ 13 when not l ∷ []) → (a ≡ true) × (l ≡ true)
-        go true true e = (refl, refl)
-        go true false e = absurd (omega arith)
-        go false l e = absurd (omega arith)
-
-    told : spot start len ≡ spot (listed_place bs name) (digest_size_in bs)
-    told =
-        let k = answered p in
-        k.leaves ∙ ap (λ (n : ℕ). after n no_spot (spot (listed_place bs name) (digest_size_in bs))) (sym k.answer)
-
-    pub found-place : start ≡ listed_place bs name
-    found-place = ap (λ (s : Spot). s.at) told
-
-    pub found_at : Within bs start len (listed_digest bs name)
-    unfolding listed_digest listed_place read_list
-    found_at =
-        let size : len ≡ digest_size_in bs = ap (λ (s : Spot). s.length) told in
-        let header = (accepted-header bs found-listed.0).within in
-        rw (found-place, size, found-listed.0)
-        (place-within (count_in bs) (digest_size_in bs) entries_at name bs header found-listed.1)
+-- ---- the two answers
 
 digest-none : (name : List ℕ) (ps : List Pair) → listed name ps ≡ false → digest_in name ps ≡ []
 unfolding listed digest_in
@@ -149,11 +115,39 @@ digest-none name (p ∷ ps) e = go (same p.name name) e (digest-none name ps)
     go true e rest = absurd (false≢true (sym e))
     go false e rest = rest e
 
--- no bytes are the digest of a name that is not listed, and in bytes that are no list
-pub nowhere-none : (bs name : List ℕ) → accepted bs ≡ true → listed name (read_list bs).pairs ≡ false → [] ≡ listed_digest bs name
-unfolding listed_digest
-nowhere-none bs name a e = rw a (sym (digest-none name (read_list bs).pairs e))
+module _ (bs name : List ℕ) {r : Result Found Refusal} (j : Answers bs name r) where
+  -- a refusal: no bytes are the digest
+  pub found_none : {e : Refusal} → r ≡ Err e → [] ≡ listed_digest bs name
+  unfolding find_tests first listed_digest
+  found_none {e = e} p =
+      go (accepted bs) (listed name (read_list bs).pairs) (digest-none name (read_list bs).pairs) (rw j.answer at (refuses r e p))
+    where
+      go : (a l : Bool) → (l ≡ false → digest_in name (read_list bs).pairs ≡ []) → 0 < first (12 when not a ∷ 13 when not l ∷ []) →
+          [] ≡ cond a (digest_in name (read_list bs).pairs) []
+      go true true none h = absurd (omega arith)
+      go true false none h = sym (none refl)
+      go false l none h = refl
 
-pub no-list-none : (bs name : List ℕ) → accepted bs ≡ false → [] ≡ listed_digest bs name
-unfolding listed_digest
-no-list-none bs name a = rw a
+  module _ {f : Found} (p : r ≡ Ok f) where
+    pub found-listed : (accepted bs ≡ true) × (listed name (read_list bs).pairs ≡ true)
+    unfolding find_tests first
+    found-listed = go (accepted bs) (listed name (read_list bs).pairs) (done_first j p)
+      where
+        go : (a l : Bool) → first (12 when not a ∷ 13 when not l ∷ []) ≡ 0 → (a ≡ true) × (l ≡ true)
+        go true true e = (refl, refl)
+        go true false e = absurd (omega arith)
+        go false l e = absurd (omega arith)
+
+    told : spot f.start f.len ≡ spot (listed_place bs name) (digest_size_in bs)
+    told = ap found_spot (sym p) ∙ done-leaves j p
+
+    pub found-place : f.start ≡ listed_place bs name
+    found-place = ap (λ (s : Spot). s.at) told
+
+    pub found_at : Within bs f.start f.len (listed_digest bs name)
+    unfolding listed_digest listed_place read_list
+    found_at =
+        let size : f.len ≡ digest_size_in bs = ap (λ (s : Spot). s.length) told in
+        let header = (accepted-header bs found-listed.0).within in
+        rw (found-place, size, found-listed.0)
+        (place-within (count_in bs) (digest_size_in bs) entries_at name bs header found-listed.1)

@@ -1,13 +1,13 @@
 -- Settled: two results that a public function's own contract allows coincide. `Learnt` is that contract, made from src.
 -- Nothing is lent to be written, so an outcome is the answer. Of a part of the list that is handed back it is the bytes, and the block and
 -- the offset where they lie.
-use mathlib.Core.Bool.{Bool}
 use mathlib.Core.List.{List}
 use Prim.Native.Nat.{ℕ}
 use Rattle.contracts.specs.Says.{Settles}
 use Rattle.contracts.proofs.Values.{value-settled}
 use Rattle.answers.proofs.Outcome.{number-injective}
 use Rattle.slices.proofs.LiesAt.{lies-settled}
+use Rattle.lists.proofs.Earlier.{place-same}
 use Rattle.lists.proofs.Places.{find-same}
 use Rattle.lists.specs.contracts.is_list as is-list
 use Rattle.lists.proofs.is_list.Reads as is-list-reads
@@ -37,16 +37,12 @@ use Rattle.lists.proofs.order.before.Reads as before-reads
 pub is-list-settled : Settles is-list.ended is-list-reads.Learnt (λ κs r x. r)
 is-list-settled κs a r s x y = value-settled
 
--- the case and its values, which its number and the place settle
+-- the answer and its values, which its number and the place settle
 pub find-settled : Settles find.ended find-reads.Learnt (λ κs r x. r)
 find-settled κs a r s x y = find-same _ _ r s
 
-pub place-settled : Settles {A = Bool × (ℕ × Bool)} place.ended place-reads.Learnt (λ κs r x. (r.accepted, (r.earlier, r.listed)))
-place-settled κs a r s x y p q =
-    λ i. (
-      value-settled p.judged q.judged i,
-      (value-settled p.place q.place i, value-settled p.names q.names i),
-    )
+pub place-settled : Settles place.ended place-reads.Learnt (λ κs r x. r)
+place-settled κs a r s x y p q = place-same r s p.0 q.0 p.1 q.1
 
 pub lookup-settled : Settles {A = List ℕ × (ℕ × ℕ)} lookup.ended lookup-reads.Learnt (λ κs r x. (r.now, r.ref_ptr))
 lookup-settled κs a r s x y = lies-settled

@@ -12,7 +12,6 @@ use lib.Dec.{eqb}
 use lib.ListN.{length, drop}
 use lib.Seq.{drop-drop}
 use Rattle.bigendian.specs.Rows.{field_in}
-use Rattle.lists.specs.declared.Found.{Found}
 use Rattle.lists.specs.Calls.{listed, place_in}
 use Rattle.lists.specs.Code.Place.{earlier}
 use Rattle.slices.specs.Parts.{part}
@@ -24,7 +23,7 @@ use Rattle.lists.specs.Order.{before}
 use Rattle.lists.specs.Code.Rules.{entry_right, entries_right, more_earlier}
 use Rattle.slices.proofs.Tests.{cond_both}
 use Rattle.lists.proofs.ByRules.{right-entry}
-use Rattle.lists.proofs.Places.{found_in}
+use Rattle.lists.proofs.Places.{found_here, not_listed, found_in}
 
 -- a place in the entry is one in the list
 pub entry-field : (bs : List ℕ) (at place n : ℕ) → field_in bs (at + place) n ≡ field_in (drop at bs) place n
@@ -63,8 +62,8 @@ pub entry-fits : (at next : ℕ) (last bs : List ℕ) (len : ℕ) → len ≡ na
 entry-fits at next last bs len p e = rw p (right-entry last next (drop at bs) bs e).within
 
 here_or_on : (s l : Bool) (here further d : ℕ) →
-    cond (cond s true l) (Found.At (cond s here further) d) Found.NotListed
-    ≡ cond s (Found.At here d) (cond l (Found.At further d) Found.NotListed)
+    cond (cond s true l) (found_here (cond s here further) d) not_listed
+    ≡ cond s (found_here here d) (cond l (found_here further d) not_listed)
 here_or_on true l here further d = refl
 here_or_on false l here further d = refl
 
@@ -72,7 +71,7 @@ here_or_on false l here further d = refl
 pub place-on : (m i d at next : ℕ) (name last bs : List ℕ) → i < m → (len : ℕ) → len ≡ name_length (drop at bs) →
     entry_right last next (drop at bs) bs ≡ true →
     found_in name d at (read_pairs (m - i) d (drop at bs) bs)
-    ≡ cond (same (part bs next len) name) (Found.At (at + entry_head) d)
+    ≡ cond (same (part bs next len) name) (found_here (at + entry_head) d)
     (found_in name d (at + entry_size d) (read_pairs (m - (i + 1)) d (drop (at + entry_size d) bs) bs))
 unfolding listed place_in read_pairs
 place-on m i d at next name last bs h len p e =
@@ -81,7 +80,7 @@ place-on m i d at next name last bs h len p e =
     rw (s, (right-entry last next (drop at bs) bs e).offset, ← p, drop-drop (entry_size d) at bs)
     (here_or_on (same (part bs next len) name) (listed name rest) (at + entry_head) (place_in name d (at + entry_size d) rest) d)
 
-pub place-over : (m i d at : ℕ) (name bs : List ℕ) → m ≤ i → found_in name d at (read_pairs (m - i) d (drop at bs) bs) ≡ Found.NotListed
+pub place-over : (m i d at : ℕ) (name bs : List ℕ) → m ≤ i → found_in name d at (read_pairs (m - i) d (drop at bs) bs) ≡ not_listed
 unfolding listed place_in read_pairs
 place-over m i d at name bs h =
     let s : m - i ≡ 0 = omega arith in

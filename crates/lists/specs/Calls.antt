@@ -1,7 +1,8 @@
 -- What the calls on a list answer: SPEC, "Digest list" (looking up) and "Calls and their numbers" (12, 13, 14).
 -- `Finds` says what looking for a name answers, its number and where the digest lies, and `listed_digest` is that digest; `pair_in` has the
 -- pairs by number, with their places; `judge_tests` are the refusals of judge in their order.
-use Rattle.std.specs.Prelude.{Bool, true, false, cond, not, List, [], ◌∷◌, ◌++◌, ℕ, ◌+◌, ◌*◌, drop, get_or}
+use Rattle.std.specs.Prelude.{Bool, true, false, cond, not, List, [], ◌∷◌, ◌++◌, ℕ, ◌+◌, ◌*◌, drop, get_or, Result, Ok, Err}
+use Rattle.answers.specs.declared.Refusal.{Refusal}
 use Rattle.answers.specs.Judged.{Test, ◌when◌, Judged}
 use Rattle.lists.specs.declared.Found.{Found}
 use Rattle.slices.specs.Tests.{same}
@@ -43,16 +44,10 @@ spot at len = record { at = at; length = len }
 abbrev pub no_spot : Spot
 no_spot = spot 0 0
 
--- the number of each case that is answered, and what it says
-abbrev pub found_number : Found → ℕ
-found_number (Found.At start len) = 0
-found_number Found.NotListed = 13
-found_number Found.NotAList = 12
-
-abbrev pub found_spot : Found → Spot
-found_spot (Found.At start len) = spot start len
-found_spot Found.NotListed = no_spot
-found_spot Found.NotAList = no_spot
+-- where the answer says that the digest lies
+abbrev pub found_spot : Result Found Refusal → Spot
+found_spot (Ok f) = spot f.start f.len
+found_spot (Err r) = no_spot
 
 -- the bytes are no list; the name has no entry
 unfoldable pub find_tests : List ℕ → List ℕ → List Test

@@ -9,18 +9,18 @@ pub mod names; // names.rt: which names a list may have
 pub mod entries; // entries.rt: the names and digests by number
 pub mod order; // order.rt: which of two names comes first
 
-ghost use Rattle.std.specs.Prelude.{◌≡◌};
+ghost use Rattle.std.specs.Prelude.{◌≡◌, is_ok};
 ghost use Rattle.answers.specs.Judged.{first};
 ghost use Rattle.answers.specs.Numbers.{number_of};
 ghost use Rattle.slices.specs.Parts.{LiesAt};
-ghost use Rattle.lists.specs.Calls.{listed_digest, listed_place, found_number, found_spot, Finds, judge_tests};
-ghost use Rattle.lists.specs.Code.Place.{Placed};
+ghost use Rattle.lists.specs.Calls.{listed_digest, listed_place, found_spot, Finds, judge_tests};
+ghost use Rattle.lists.specs.Code.Place.{place_tests, earlier_of, listed_of, Placed};
 ghost use Rattle.lists.specs.Layout.{accepted};
 ghost use Rattle.lists.specs.Code.Rules.{names_entry};
 
-use answers::Answer;
+use answers::{Answer, Refusal};
 use slices::places::part;
-use slices::same::same_bytes;
+use slices::same::same;
 
 // House: so many entries at most.
 pub const MOST_ENTRIES: usize = 256;
@@ -29,22 +29,16 @@ pub const MOST_ENTRIES: usize = 256;
 pub const LONGEST: usize = fields::ENTRIES_AT
     + MOST_ENTRIES * (fields::ENTRY_HEAD + 64 + names::LONGEST);
 
-// What looking for a name finds, with its number.
-#[derive(Clone, Copy)]
-pub enum Found {
-    // 0: its digest: where it starts in the list, and how long it is
-    At { start: usize, len: usize },
-    // 13: no entry has the name
-    NotListed,
-    // 12: the bytes are no digest list
-    NotAList,
+// Where the digest of a name lies: where it starts in the list, and how long it is.
+#[derive(Clone, Copy, Debug, PartialEq, Eq)]
+pub struct Found {
+    pub start: usize,
+    pub len: usize,
 }
 
-// What one reading of the bytes tells of a name: whether they are a list, how many of its names come before the name, and whether it has
-// the name.
-#[derive(Clone, Copy)]
+// What one reading of a list tells of a name: how many of its names come before the name, and whether it has the name.
+#[derive(Clone, Copy, Debug, PartialEq, Eq)]
 pub struct Placing {
-    pub accepted: bool,
     pub earlier: usize,
     pub listed: bool,
 }
@@ -53,32 +47,23 @@ pub struct Placing {
 fn names_entry(list: &[u8], i: usize, name: &[u8]) -> bool
     ensures { result ≡ names_entry list.now i name.now }
 {
-    if entries::count(list) <= i {
-        return false;
-    }
-    same_bytes(entries::name(list, i), name)
+    i < entries::count(list) && same(entries::name(list, i), name)
 }
 
-// The header and then the entries, rule by rule in one pass, which also counts the names that come before.
-pub fn place(list: &[u8], name: &[u8]) -> Placing
-    ensures { Placed list.now name.now result.accepted result.earlier result.listed }
+// The header and then the entries, rule by rule in one pass, which also counts the names that come before. Bytes that are no list: 12.
+pub fn place(list: &[u8], name: &[u8]) -> Result<Placing, Refusal>
+    ensures answer { number_of result ≡ first (place_tests list.now) }
+    ensures places { Placed list.now name.now (is_ok result) (earlier_of result) (listed_of result) }
 {
-    if rules::header_right(list) {
-        let walk = rules::walk(list, name, entries::count(list), entries::digest_size(list));
-        if walk.right {
-            let earlier = walk.earlier;
-            let listed = names_entry(list, earlier, name);
-            return Placing {
-                accepted: true,
-                earlier,
-                listed,
-            };
-        }
+    if !rules::header_right(list) {
+        return Err(Refusal::NotAList);
     }
-    Placing {
-        accepted: false,
-        earlier: 0,
-        listed: false,
+    match rules::walk(list, name, entries::count(list), entries::digest_size(list)) {
+        Some(earlier) => {
+            let listed = names_entry(list, earlier, name);
+            Ok(Placing { earlier, listed })
+        }
+        None => Err(Refusal::NotAList),
     }
 }
 
@@ -86,34 +71,33 @@ pub fn place(list: &[u8], name: &[u8]) -> Placing
 pub fn is_list(list: &[u8]) -> bool
     ensures { result ≡ accepted list.now }
 {
-    let place = place(list, &list[..0]);
-    place.accepted
+    place(list, &list[..0]).is_ok()
 }
 
-// In a list each name starts where the last one ends, so only its length is read.
-pub fn find(list: &[u8], name: &[u8]) -> Found
-    ensures { Finds list.now name.now (found_number result) (found_spot result) }
+// In a list each name starts where the last one ends, so only its length is read. Bytes that are no list: 12; a name without an entry: 13.
+pub fn find(list: &[u8], name: &[u8]) -> Result<Found, Refusal>
+    ensures { Finds list.now name.now (number_of result) (found_spot result) }
 {
     if !is_list(list) {
-        return Found::NotAList;
+        return Err(Refusal::NotAList);
     }
     let count = entries::count(list);
     let digest = entries::digest_size(list);
     let size = fields::ENTRY_HEAD + digest;
     let mut at = fields::ENTRIES_AT;
     let mut next = fields::ENTRIES_AT + count * size;
-    let mut i = 0;
-    while i < count {
+    for _ in 0..count {
         let len = fields::name_length(list, at);
-        if same_bytes(part(list, next, len), name) {
-            let start = at + fields::ENTRY_HEAD;
-            return Found::At { start, len: digest };
+        if same(part(list, next, len), name) {
+            return Ok(Found {
+                start: at + fields::ENTRY_HEAD,
+                len: digest,
+            });
         }
         next += len;
         at += size;
-        i += 1;
     }
-    Found::NotListed
+    Err(Refusal::NotListed)
 }
 
 // The digest of the name, lent out of the list where it lies there; empty where `find` finds none, and then at the list's beginning.
@@ -122,9 +106,8 @@ pub fn lookup<'a, 'b>(list: &'a [u8], name: &'b [u8]) -> &'a [u8]
     ensures lies_at { LiesAt result list.entry (listed_place list.now name.now) }
 {
     match find(list, name) {
-        Found::At { start, len } => part(list, start, len),
-        Found::NotListed => &list[..0],
-        Found::NotAList => &list[..0],
+        Ok(found) => part(list, found.start, found.len),
+        Err(_) => &list[..0],
     }
 }
 
@@ -132,15 +115,9 @@ pub fn lookup<'a, 'b>(list: &'a [u8], name: &'b [u8]) -> &'a [u8]
 pub fn judge(list: &[u8], name: &[u8], digest: &[u8]) -> Answer
     ensures { number_of result ≡ first (judge_tests list.now name.now digest.now) }
 {
-    match find(list, name) {
-        Found::At { start, len } => {
-            if same_bytes(part(list, start, len), digest) {
-                Answer::Done
-            } else {
-                Answer::DigestDiffers
-            }
-        }
-        Found::NotListed => Answer::NotListed,
-        Found::NotAList => Answer::NotAList,
+    let found = find(list, name)?;
+    if !same(part(list, found.start, found.len), digest) {
+        return Err(Refusal::DigestDiffers);
     }
+    Ok(())
 }

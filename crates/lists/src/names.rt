@@ -1,6 +1,6 @@
 // Which names a list may have: SPEC, "Digest list".
 ghost use Rattle.std.specs.Prelude.{◌≡◌};
-ghost use Rattle.slices.specs.Tests.{every};
+ghost use Rattle.std.specs.List.{list_all};
 ghost use Rattle.lists.specs.Lists.{in_name, name_allowed};
 
 // House: the longest name.
@@ -9,30 +9,17 @@ pub const LONGEST: usize = 64;
 fn in_name(b: u8) -> bool
     ensures { result ≡ in_name b }
 {
-    0x21 <= b && b <= 0x7e
+    (0x21..=0x7e).contains(&b)
 }
 
 fn all_in_name(name: &[u8]) -> bool
-    ensures { result ≡ every in_name name.now }
+    ensures { result ≡ list_all in_name name.now }
 {
-    let mut i = 0;
-    while i < name.len() {
-        if !in_name(name[i]) {
-            return false;
-        }
-        i += 1;
-    }
-    true
+    name.iter().all(|b| in_name(*b))
 }
 
 pub fn allowed(name: &[u8]) -> bool
     ensures { result ≡ name_allowed name.now }
 {
-    if name.len() < 1 {
-        return false;
-    }
-    if LONGEST < name.len() {
-        return false;
-    }
-    all_in_name(name)
+    1 <= name.len() && name.len() <= LONGEST && all_in_name(name)
 }

@@ -1,6 +1,6 @@
 // Whether bytes are a digest list: SPEC, "Digest list", rule by rule in one pass. Numbers read from the bytes may be anything
 // up to 2^32 - 1, so each is compared before it is added to, or used as, a place.
-ghost use Rattle.std.specs.Prelude.{true, ◌≡◌, [], ◌+◌, ◌-◌, ◌^◌, ◌<◌, ◌≤◌, length, drop};
+ghost use Rattle.std.specs.Prelude.{◌≡◌, [], ◌+◌, ◌-◌, ◌^◌, ◌<◌, ◌≤◌, ℕ, length, drop, Some, is_some};
 ghost use Rattle.slices.specs.Parts;
 ghost use Rattle.lists.specs.Code.Place.{earlier};
 ghost use Rattle.lists.specs.Layout.{entries_at, entry_head, entry_size, names_at, read_pairs};
@@ -16,16 +16,10 @@ use slices::places::part;
 fn offsets_right(list: &[u8], names: usize) -> bool
     ensures { result ≡ offsets_right names list.now }
 {
-    if number(list, fields::ENTRIES_FIELD_AT, fields::OFFSET) != fields::ENTRIES_AT {
-        return false;
-    }
-    if number(list, fields::NAMES_FIELD_AT, fields::OFFSET) != names {
-        return false;
-    }
-    if number(list, fields::WHOLE_FIELD_AT, fields::OFFSET) != list.len() {
-        return false;
-    }
-    names <= list.len()
+    number(list, fields::ENTRIES_FIELD_AT, fields::OFFSET) == fields::ENTRIES_AT
+        && number(list, fields::NAMES_FIELD_AT, fields::OFFSET) == names
+        && number(list, fields::WHOLE_FIELD_AT, fields::OFFSET) == list.len()
+        && names <= list.len()
 }
 
 pub(crate) fn header_right(list: &[u8]) -> bool
@@ -66,34 +60,25 @@ fn entry_right(list: &[u8], at: usize, last: usize, next: usize) -> bool
     order::before(part(list, last, next - last), name)
 }
 
-// What a walk over the entries tells: whether they are right, and, if they are, how many names come before the one that is looked for.
-#[derive(Clone, Copy)]
-pub(crate) struct Walked {
-    pub(crate) right: bool,
-    pub(crate) earlier: usize,
-}
-
 // How many names come before the one looked for, with entry i seen too: the count grows only while all names so far came before.
 fn further(earlier: usize, i: usize, entry: &[u8], name: &[u8]) -> usize
     requires { i < 2 ^ 32 }
     ensures { result ≡ more_earlier earlier i (Order.before entry.now name.now) }
 {
-    if earlier != i {
-        return earlier;
-    }
-    if order::before(entry, name) {
+    if earlier == i && order::before(entry, name) {
         return earlier + 1;
     }
     earlier
 }
 
-// The empty name in front of the names comes before the first of them, whatever that is.
-pub(crate) fn walk(list: &[u8], name: &[u8], count: usize, digest: usize) -> Walked
+// How many names come before the one that is looked for, where the entries are right, and nothing where they are not. The empty name in
+// front of the names comes before the first of them, whatever that is.
+pub(crate) fn walk(list: &[u8], name: &[u8], count: usize, digest: usize) -> Option<usize>
     requires { (digest ≤ 64) × (count ≤ 256) × (names_at count digest ≤ length list.now) }
-    ensures right_value { result.right
+    ensures right_value { is_some result
         ≡ entries_right count (entry_size digest) [] (names_at count digest) (drop entries_at list.now) list.now }
-    ensures earlier_value { result.right ≡ true →
-        result.earlier
+    ensures earlier_value { (n : ℕ) → result ≡ Some n →
+        n
         ≡ earlier name.now (read_pairs count digest (drop entries_at list.now) list.now) }
 {
     let size = fields::ENTRY_HEAD + digest;
@@ -101,23 +86,18 @@ pub(crate) fn walk(list: &[u8], name: &[u8], count: usize, digest: usize) -> Wal
     let mut next = fields::ENTRIES_AT + count * size;
     let mut last = next;
     let mut earlier = 0;
-    let mut i = 0;
-    while i < count {
+    for i in 0..count {
         if !entry_right(list, at, last, next) {
-            return Walked {
-                right: false,
-                earlier,
-            };
+            return None;
         }
         last = next;
         let len = name_length(list, at);
         earlier = further(earlier, i, part(list, next, len), name);
         next += len;
         at += size;
-        i += 1;
     }
-    Walked {
-        right: next == list.len(),
-        earlier,
+    if next != list.len() {
+        return None;
     }
+    Some(earlier)
 }

@@ -2,6 +2,7 @@
 // What it must write is the crate's file `stdout`; data/README.md says where the vectors are from and how their lines read.
 #![tactic(auto)]
 
+mod digest;
 mod file;
 mod line;
 

@@ -5,11 +5,12 @@ use mathlib.Core.Bool.{true, false, not}
 use mathlib.Core.List.{List}
 use mathlib.Core.Path.{◌≡◌, refl, sym, ap, ◌∙◌}
 use native.Mathlib.Omega.{arith}
-use lib.Dec.{lt→ltb}
+use Rattle.answers.specs.declared.Refusal.{Refusal}
+use Rattle.answers.specs.Numbers.{refusal_number}
 use lib.ListN.{length, take, length-take}
 use borrow.Author.Tests.{le-leb, lt-leb, not-false, ltb-false}
 use Rattle.answers.specs.Judged.{Test, first}
-use Rattle.answers.proofs.Outcome.{refused, done}
+use Rattle.answers.proofs.Outcome.{refused, done, refusing-number}
 use Rattle.answers.proofs.Tests.{passed}
 use Rattle.slices.specs.Tests.{holds}
 use Rattle.bays.specs.Table.{room_for}
@@ -43,8 +44,8 @@ module _ (table anew : List ℕ) (e : ℕ) (a : List ℕ) (cut : ℕ) (b c saved
   same : first (sized (record_room e (length (take cut a)))) ≡ first (sized size)
   same = ap (λ (n : ℕ). first (sized n)) (sym long)
 
-  pub no-night : {n : ℕ} → n ≡ first (sized size) → 0 < n → Night table anew e a cut b c saved out n out
-  no-night {n} p q = refused (same ∙ sym p) (lt→ltb 0 n q) refl
+  pub no-night : (r : Refusal) → refusal_number r ≡ first (sized size) → Night table anew e a cut b c saved out (refusal_number r) out
+  no-night r p = refused (same ∙ sym p) (refusing-number r) refl
 
   -- what is known once the tests are passed
   module _ (z : first (sized size) ≡ 0) where

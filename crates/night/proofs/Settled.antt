@@ -1,7 +1,7 @@
 -- Settled: two outcomes that the night's own contract allows coincide, the answer and the three outputs. What is left of the tables and of
 -- the record is not said. `Learnt` is that contract, made from src.
 use Rattle.contracts.specs.Says.{Settles}
-use Rattle.answers.specs.declared.Answer.{Answer}
+use Rattle.answers.specs.Numbers.{Answer}
 use Rattle.answers.proofs.Outcome.{answer-settled}
 use Rattle.night.specs.Night.{Digests, digests}
 use Rattle.night.specs.contracts.night as night

@@ -1,10 +1,11 @@
 // What does not fit, asked before anything is written and by lengths alone: SPEC, "Calls and their numbers".
-ghost use Rattle.std.specs.Prelude.{◌≡◌};
+ghost use Rattle.std.specs.Prelude.{◌≡◌, length};
 ghost use Rattle.answers.specs.Judged.{first};
 ghost use Rattle.answers.specs.Numbers.{number_of};
 ghost use Rattle.night.specs.Night.{record_room, night_tests};
 
-use answers::Answer;
+use crate::Files;
+use answers::{Answer, Refusal};
 use dwsha2::limit::too_long;
 
 // SPEC, "Limits": the words of a table of three bays.
@@ -21,52 +22,55 @@ pub(crate) fn record_length(edition: u64, count: usize) -> usize
     WORDS_AT + fips::lookup::block_bytes(edition) / 2 + tail
 }
 
-// The first reason to refuse, by the lengths of what is lent and the size of the record.
-pub(crate) fn refusal(
-    table: usize,
-    anew: usize,
-    edition: u64,
-    a: usize,
-    b: usize,
-    c: usize,
-    size: usize,
-    saved: usize,
-    x: usize,
-    y: usize,
-    z: usize,
-) -> Answer
-    ensures { number_of result ≡ first (night_tests table anew edition a b c size saved x y z) }
+// How much is lent: the words of the two tables, the bytes that the record takes, and those for it and for the three digests.
+#[derive(Clone, Copy)]
+pub(crate) struct Lengths {
+    pub table: usize,
+    pub anew: usize,
+    pub size: usize,
+    pub saved: usize,
+    pub first: usize,
+    pub second: usize,
+    pub third: usize,
+}
+
+// The first reason to refuse, by the lengths of what is lent.
+pub(crate) fn refusal(files: Files, lent: Lengths) -> Answer
+    ensures { let f = files.entry in
+        number_of result ≡ first (night_tests lent.table lent.anew f.edition (length f.a.now) (length f.b.now) (length f.c.now)
+        lent.size lent.saved lent.first lent.second lent.third) }
 {
-    if table < THREE_BAYS {
-        return Answer::BadLayout;
+    let edition = files.edition;
+    if lent.table < THREE_BAYS {
+        return Err(Refusal::BadLayout);
     }
-    if anew < THREE_BAYS {
-        return Answer::BadLayout;
+    if lent.anew < THREE_BAYS {
+        return Err(Refusal::BadLayout);
     }
     if !fips::lookup::known(edition) {
-        return Answer::NoSuchEdition;
+        return Err(Refusal::NoSuchEdition);
     }
-    if too_long(edition, 0, a) {
-        return Answer::TooLong;
+    if too_long(edition, 0, files.a.len()) {
+        return Err(Refusal::TooLong);
     }
-    if too_long(edition, 0, b) {
-        return Answer::TooLong;
+    if too_long(edition, 0, files.b.len()) {
+        return Err(Refusal::TooLong);
     }
-    if too_long(edition, 0, c) {
-        return Answer::TooLong;
+    if too_long(edition, 0, files.c.len()) {
+        return Err(Refusal::TooLong);
     }
-    if saved < size {
-        return Answer::ShortOutput;
+    if lent.saved < lent.size {
+        return Err(Refusal::ShortOutput);
     }
     let room = fips::lookup::digest_bytes(edition);
-    if x < room {
-        return Answer::ShortOutput;
+    if lent.first < room {
+        return Err(Refusal::ShortOutput);
     }
-    if y < room {
-        return Answer::ShortOutput;
+    if lent.second < room {
+        return Err(Refusal::ShortOutput);
     }
-    if z < room {
-        return Answer::ShortOutput;
+    if lent.third < room {
+        return Err(Refusal::ShortOutput);
     }
-    Answer::Done
+    Ok(())
 }

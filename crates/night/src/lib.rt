@@ -6,11 +6,22 @@ ghost use Rattle.answers.specs.Numbers.{number_of};
 ghost use Rattle.night.specs.Night.{digests, Night};
 
 use answers::Answer;
+use fits::Lengths;
 use slices::places::least;
 
 mod fits; // fits.rt: what is refused
 mod evening; // evening.rt: up to the record
 mod morning; // morning.rt: from the record to the digests
+
+// The edition, the three files, and how many bytes of each had come in the evening.
+#[derive(Clone, Copy)]
+struct Files<'a> {
+    edition: u64,
+    a: &'a [u8],
+    b: &'a [u8],
+    c: &'a [u8],
+    cut: usize,
+}
 
 // In the evening `cut` bytes of each file have come when the first file is saved; `anew` are the words of the morning, which held anything.
 pub fn night(
@@ -30,25 +41,28 @@ pub fn night(
         (digests first.old second.old third.old) (number_of result)
         (digests first.new second.new third.new) }
 {
-    let size = fits::record_length(edition, least(cut, a.len()));
-    let refusal = fits::refusal(
-        table.len(),
-        anew.len(),
+    let files = Files {
         edition,
-        a.len(),
-        b.len(),
-        c.len(),
-        size,
-        saved.len(),
-        first.len(),
-        second.len(),
-        third.len(),
-    );
-    let Answer::Done = refusal else {
-        return refusal;
+        a,
+        b,
+        c,
+        cut,
     };
-    evening::evening(table, edition, a, cut, b, c, saved);
-    morning::morning(anew, edition, size, saved, a, cut, b, c);
+    let size = fits::record_length(edition, least(cut, a.len()));
+    fits::refusal(
+        files,
+        Lengths {
+            table: table.len(),
+            anew: anew.len(),
+            size,
+            saved: saved.len(),
+            first: first.len(),
+            second: second.len(),
+            third: third.len(),
+        },
+    )?;
+    evening::evening(table, files, saved);
+    morning::morning(anew, size, saved, files);
     morning::close_all(anew, first, second, third);
-    Answer::Done
+    Ok(())
 }

@@ -1,12 +1,14 @@
 // The morning: other words are laid out, the first file is taken up from its record, the others are begun again, and all are closed.
 ghost use Rattle.std.specs.Prelude.{true, List, [], ◌≡◌, ℕ, length, take};
 ghost use Rattle.answers.specs.Numbers.{number_of};
+ghost use Rattle.slices.specs.Below.{Bytes};
 ghost use Rattle.bays.specs.Table.{room_for};
 ghost use Rattle.calls.specs.Calls.{Call, Lends, Outcome};
 ghost use Rattle.ledger.specs.Ends.{record_of_message};
 ghost use Rattle.night.specs.Night.{digests, file_digests};
 ghost use Rattle.night.specs.Code.Held.{holding, Held, Fitting, Roomy};
 
+use crate::Files;
 use crate::evening::laid;
 use answers::Answer;
 use slices::places::part;
@@ -20,37 +22,30 @@ fn take_up(table: &mut [u64], saved: &[u8]) -> Answer
 }
 
 // What is left of each file, alternately: of the first file what came after the record, of the others all.
-fn go_on(table: &mut [u64], a: &[u8], cut: usize, b: &[u8], c: &[u8])
-    ensures { (e : ℕ) → Fitting e a.now b.now c.now →
-        Held table.old (holding e (take cut a.now)) (holding e []) (holding e []) →
-        Held table.new (holding e a.now) (holding e b.now) (holding e c.now) }
+fn go_on(table: &mut [u64], files: Files)
+    ensures { let f = files.entry in
+        Fitting f.edition f.a.now f.b.now f.c.now →
+        Held table.old (holding f.edition (take f.cut f.a.now)) (holding f.edition []) (holding f.edition []) →
+        Held table.new (holding f.edition f.a.now) (holding f.edition f.b.now) (holding f.edition f.c.now) }
 {
-    calls::add(table, 1, part(b, 0, cut));
-    calls::add(table, 0, part(a, cut, a.len()));
-    calls::add(table, 2, part(c, 0, cut));
-    calls::add(table, 1, part(b, cut, b.len()));
-    calls::add(table, 2, part(c, cut, c.len()));
+    let Files { a, b, c, cut, .. } = files;
+    let _ = calls::add(table, 1, part(b, 0, cut));
+    let _ = calls::add(table, 0, part(a, cut, a.len()));
+    let _ = calls::add(table, 2, part(c, 0, cut));
+    let _ = calls::add(table, 1, part(b, cut, b.len()));
+    let _ = calls::add(table, 2, part(c, cut, c.len()));
 }
 
 // The record is the first `size` bytes of what was saved.
-pub(crate) fn morning(
-    anew: &mut [u64],
-    edition: u64,
-    size: usize,
-    saved: &[u8],
-    a: &[u8],
-    cut: usize,
-    b: &[u8],
-    c: &[u8],
-)
-    ensures { room_for 3 (length anew.old) ≡ true → Fitting edition a.now b.now c.now →
-        take size saved.now ≡ record_of_message edition (take cut a.now) →
-        Held anew.new (holding edition a.now) (holding edition b.now)
-        (holding edition c.now) }
+pub(crate) fn morning(anew: &mut [u64], size: usize, saved: &[u8], files: Files)
+    ensures { let f = files.entry in
+        Bytes f.a.now → room_for 3 (length anew.old) ≡ true → Fitting f.edition f.a.now f.b.now f.c.now →
+        take size saved.now ≡ record_of_message f.edition (take f.cut f.a.now) →
+        Held anew.new (holding f.edition f.a.now) (holding f.edition f.b.now) (holding f.edition f.c.now) }
 {
-    laid(anew, edition);
-    take_up(anew, part(saved, 0, size));
-    go_on(anew, a, cut, b, c);
+    laid(anew, files.edition);
+    let _ = take_up(anew, part(saved, 0, size));
+    go_on(anew, files);
 }
 
 pub(crate) fn close_all(table: &mut [u64], first: &mut [u8], second: &mut [u8], third: &mut [u8])
@@ -59,7 +54,7 @@ pub(crate) fn close_all(table: &mut [u64], first: &mut [u8], second: &mut [u8], 
         digests first.new second.new third.new
         ≡ file_digests e a b c (digests first.old second.old third.old) }
 {
-    calls::close(table, 0, 0, 0, first);
-    calls::close(table, 1, 0, 0, second);
-    calls::close(table, 2, 0, 0, third);
+    let _ = calls::close(table, 0, 0, 0, first);
+    let _ = calls::close(table, 1, 0, 0, second);
+    let _ = calls::close(table, 2, 0, 0, third);
 }

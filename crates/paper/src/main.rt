@@ -2,31 +2,38 @@
 #![tactic(auto)]
 
 use answers::Answer;
-use std::io;
+use std::{fmt, io};
 
 fn say(rt: &impl Print, what: &str, answer: Answer) -> io::Result<()> {
     let number = answers::number(answer);
     println!(rt; "{what}: {number}")
 }
 
-fn say_digest(rt: &impl Print, digest: [u8; 32]) -> io::Result<()> {
-    let a = bigendian::get(&digest[0..8]);
-    let b = bigendian::get(&digest[8..16]);
-    let c = bigendian::get(&digest[16..24]);
-    let d = bigendian::get(&digest[24..32]);
-    println!(rt; "its digest: {a:016x}{b:016x}{c:016x}{d:016x}")
+// Bytes in hexadecimal.
+#[derive(Clone, Copy)]
+struct Hex<'a>(&'a [u8]);
+
+impl fmt::Display for Hex<'_> {
+    fn fmt<W: fmt::Write>(&self, f: &mut fmt::Formatter<W>) -> fmt::Result {
+        for byte in self.0 {
+            write!(f, "{byte:02x}")?;
+        }
+        Ok(())
+    }
+}
+
+fn say_digest(rt: &impl Print, digest: &[u8]) -> io::Result<()> {
+    println!(rt; "its digest: {}", Hex(digest))
 }
 
 // The shortest run for one bay and for 64, and a word less.
 fn layouts(rt: &impl Print) -> io::Result<()> {
-    let mut one = [7u64; 30];
-    let mut short = [7u64; 29];
-    let mut most = [7u64; 1668];
-    let mut nearly = [7u64; 1667];
-    say(rt, "N=1 in L=30", calls::lay_out(&mut one, 1))?;
-    say(rt, "N=1 in L=29", calls::lay_out(&mut short, 1))?;
-    say(rt, "N=64 in L=1668", calls::lay_out(&mut most, 64))?;
-    say(rt, "N=64 in L=1667", calls::lay_out(&mut nearly, 64))
+    let mut table = [7u64; 1668];
+    for (bays, words) in [(1, 30), (1, 29), (64, 1668), (64, 1667)] {
+        let number = answers::number(calls::lay_out(&mut table[..words], bays));
+        println!(rt; "N={bays} in L={words}: {number}")?;
+    }
+    Ok(())
 }
 
 // The record of 2^40 bytes in edition 2. They end at a block, so it has no tail; for its words the edition's starting words serve.
@@ -55,7 +62,7 @@ fn limits(rt: &impl Print) -> io::Result<()> {
         "close with 7 bits",
         calls::close(&mut table, 0, 0xfe, 7, &mut digest),
     )?;
-    say_digest(rt, digest)
+    say_digest(rt, &digest)
 }
 
 // A 1 behind the closing bits, an output too short by a byte, and both: then 8 goes before 9.
@@ -85,7 +92,7 @@ fn closings(rt: &impl Print) -> io::Result<()> {
         "close 68 with b=5",
         calls::close(&mut table, 0, 0x68, 5, &mut out),
     )?;
-    say_digest(rt, out)
+    say_digest(rt, &out)
 }
 
 fn main(rt: HostRuntime) -> io::Result<()> {

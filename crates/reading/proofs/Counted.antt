@@ -2,8 +2,8 @@
 use Prim.Native.Nat.{ℕ}
 use mathlib.Core.List.{List}
 use mathlib.Core.Path.{◌≡◌, subst}
-use Rattle.reading.specs.declared.Filled.{Filled}
+use Rattle.std.specs.Prelude.{Option, Some}
 use Rattle.reading.specs.Filled.{Fills}
 
-pub counted : (buffer : List ℕ) {r : Filled} {n : ℕ} → r ≡ Filled.Bytes n → Fills r buffer → Fills (Filled.Bytes n) buffer
-counted buffer e f = subst (λ (q : Filled). Fills q buffer) e f
+pub counted : (buffer : List ℕ) {r : Option ℕ} {n : ℕ} → r ≡ Some n → Fills r buffer → Fills (Some n) buffer
+counted buffer e f = subst (λ (q : Option ℕ). Fills q buffer) e f

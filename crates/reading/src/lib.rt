@@ -11,27 +11,15 @@ ghost use Rattle.reading.specs.Filled.{Fills, Takes};
 ghost use Rattle.reading.specs.Answers.{error_number, answered_as};
 
 use lines::Why;
-use report::{Brought, Ending, Turn, file, reads};
+use report::{Ending, file, reads};
 use std::fs::{self, Files};
 use std::io::{self, ErrorKind, Read};
-
-// What came of reading a file into a buffer.
-#[derive(Clone, Copy)]
-pub enum Filled {
-    // so many bytes at its front: all of the file, or as many as there is room for
-    Bytes(usize),
-    // a read failed, or the file could not be opened
-    Failed,
-}
 
 // The number of an error, as Linux has them; 0, which is none of them, where it is the library's own.
 fn number(error: &io::Error) -> i32
     ensures { result ≡ error_number error.now }
 {
-    match error.raw_os_error() {
-        Some(n) => n,
-        None => 0,
-    }
+    error.raw_os_error().unwrap_or(0)
 }
 
 // What a read answered as `report` reads it: its number of bytes, or one below 0 and the number of the error.
@@ -45,42 +33,35 @@ fn answered(got: io::Result<usize>) -> (isize, i32)
     }
 }
 
-// The rest of a file at the front of a buffer.
-pub fn rest<R: Read>(from: &mut R, buffer: &mut [u8]) -> Filled
+// The rest of a file at the front of a buffer: so many bytes, all of them or as many as there is room for. None where a read failed.
+pub fn rest<R: Read>(from: &mut R, buffer: &mut [u8]) -> Option<usize>
     ensures fills { Fills result buffer.new }
     ensures bytes { Takes (R.remaining from.old) (R.remaining from.new) result buffer.new }
 {
     let mut n = 0;
     for _ in 0..u64::MAX {
         match from.read(&mut buffer[n..]) {
-            Ok(0) => return Filled::Bytes(n),
+            Ok(0) => return Some(n),
             Ok(more) => n += more,
-            Err(e) => {
-                if e.kind() != ErrorKind::Interrupted {
-                    return Filled::Failed;
-                }
-            }
+            Err(e) if e.kind() == ErrorKind::Interrupted => {}
+            Err(_) => return None,
         }
     }
-    Filled::Failed
+    None
 }
 
 // Opens a file by its name. A name that is no UTF-8 text is one of no file here.
 fn open<F: Files>(files: &F, name: &[u8]) -> io::Result<F::File> {
-    match std::str::from_utf8(name) {
-        Ok(name) => fs::File::open(files, name),
-        Err(_) => Err(io::Error::from(ErrorKind::InvalidFilename)),
-    }
+    let name = std::str::from_utf8(name).map_err(|_| ErrorKind::InvalidFilename)?;
+    fs::File::open(files, name)
 }
 
-// The same of a file by its name.
-pub fn whole<F: Files>(files: &F, name: &[u8], buffer: &mut [u8]) -> Filled
+// The same of a file by its name. None where it could not be opened, too.
+pub fn whole<F: Files>(files: &F, name: &[u8], buffer: &mut [u8]) -> Option<usize>
     ensures { Fills result buffer.new }
 {
-    match open(files, name) {
-        Ok(mut from) => rest(&mut from, buffer),
-        Err(_) => Filled::Failed,
-    }
+    let mut from = open(files, name).ok()?;
+    rest(&mut from, buffer)
 }
 
 // Takes the rest of the file, piece by piece.
@@ -90,7 +71,7 @@ fn pieces<R: Read>(from: &mut R, table: &mut [u64]) -> Ending
     let mut piece = [0u8; 4096];
     for _ in 0..u64::MAX {
         let (got, errno) = answered(from.read(&mut piece));
-        if let Turn::Ends(ending) = file::turn(table, &piece, got, errno) {
+        if let Some(ending) = file::turn(table, &piece, got, errno) {
             return ending;
         }
     }

@@ -4,14 +4,15 @@
 use Prim.Native.Nat.{ℕ, ◌^◌, ◌<◌}
 use mathlib.Core.Bool.{true}
 use mathlib.Core.List.{List}
-use mathlib.Core.Path.{◌≡◌, refl, ap, subst, ◌∙◌}
+use mathlib.Core.Path.{◌≡◌, refl, ap, subst}
 use native.Mathlib.Omega.{arith}
 use borrow.Author.Tests.{not-false}
 use Rattle.contracts.specs.Says.{Made}
-use Rattle.answers.specs.declared.Answer.{Answer}
-use Rattle.answers.specs.Judged.{Judged, first}
+use Rattle.std.specs.Prelude.{Result, Ok}
+use Rattle.answers.specs.declared.Refusal.{Refusal}
+use Rattle.answers.specs.Judged.{Judged, first, handed}
 use Rattle.answers.specs.Numbers.{number_of}
-use Rattle.answers.proofs.Outcome.{number-injective}
+use Rattle.answers.proofs.Outcome.{done, handed-settled}
 use Rattle.answers.proofs.Refusals.{done_first}
 use Rattle.answers.proofs.Tests.{passed}
 use Rattle.slices.specs.Below.{Bytes}
@@ -19,7 +20,7 @@ use Rattle.fips.specs.Words.{Width, w32, w64}
 use Rattle.fips.specs.Editions.{known, width}
 use Rattle.fips.proofs.Sizes.{bytes-within}
 use Rattle.halfread.specs.State.{blank}
-use Rattle.records.specs.declared.Loaded.{Loaded}
+use Rattle.halfread.specs.declared.HalfRead.{HalfRead}
 use Rattle.records.specs.Record.{newest, word_count, number_bytes, edition_at, word_count_at, words_field_at, tail_field_at, count_at}
 use Rattle.records.specs.Record.{tail_length_at, whole_length_at, zeros_at, words_at, tail_at, loaded, is_record, load_tests}
 use Rattle.records.specs.Rules.{Rules, Lengths, longest_of}
@@ -36,21 +37,21 @@ pub record-rules : (bytes : List ℕ) → Bytes bytes →
 record-rules bytes all = form-record-rules newest newest-fits bytes all
 
 -- so, by the contract of the code, a load is done exactly where they are kept
-loads : (s : List ℕ) (r : Loaded) → Judged (load_tests s) blank (loaded s) (number_of r.answer) r.half →
-    (r.answer ≡ Answer.Done → is_record s ≡ true) × (is_record s ≡ true → r.answer ≡ Answer.Done)
+loads : (s : List ℕ) (r : Result HalfRead Refusal) → Judged (load_tests s) blank (loaded s) (number_of r) (handed blank r) →
+    ((h : HalfRead) → r ≡ Ok h → is_record s ≡ true) × (is_record s ≡ true → r ≡ Ok (loaded s))
 unfolding load_tests first
 loads s r j = (
-  λ d. not-false (is_record s) (passed (load_tests s) tt (done_first j d) 0),
-  λ e. number-injective r.answer Answer.Done (j.answer ∙ rw e),
+  λ h d. not-false (is_record s) (passed (load_tests s) tt (done_first j d) 0),
+  λ e. handed-settled r (Ok (loaded s)) j (done (rw e) refl),
 )
 
 pub load-rules : (m : Made load.ended load-reads.Learnt) →
-    (m.result.answer ≡ Answer.Done → Rules newest m.args.0.now)
-    × (Bytes m.args.0.now → Rules newest m.args.0.now → m.result.answer ≡ Answer.Done)
+    ((h : HalfRead) → m.result ≡ Ok h → Rules newest m.args.0.now)
+    × (Bytes m.args.0.now → Rules newest m.args.0.now → m.result ≡ Ok (loaded m.args.0.now))
 load-rules m =
     let s = m.args.0.now in
     let done = loads s m.result m.learnt in
-    (λ d. form-record-keeps newest newest-fits s (done.0 d), λ all r. done.1 (form-keeps-record newest s all r))
+    (λ h d. form-record-keeps newest newest-fits s (done.0 h d), λ all r. done.1 (form-keeps-record newest s all r))
 
 -- the first column of SPEC's table: edition, count of words, words at, tail at, count, tail length, whole length, spare, words
 pub record-places : (edition_at ≡ 0) × (word_count_at ≡ 2) × (words_field_at ≡ 4) × (tail_field_at ≡ 6) × (count_at ≡ 8)

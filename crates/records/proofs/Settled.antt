@@ -2,23 +2,16 @@
 -- `Learnt` is that contract, made from src. SPEC, "How much each call says".
 use Prim.Native.Nat.{ℕ}
 use mathlib.Core.List.{List}
-use mathlib.Core.Path.{ap}
 use Rattle.contracts.specs.Says.{Settles}
-use Rattle.answers.specs.declared.Answer.{Answer}
-use Rattle.answers.proofs.Outcome.{answer-both}
-use Rattle.halfread.specs.declared.HalfRead.{HalfRead}
-use Rattle.records.specs.declared.Loaded.{Loaded}
+use Rattle.answers.specs.Numbers.{Answer}
+use Rattle.answers.proofs.Outcome.{answer-both, handed-settled}
 use Rattle.records.specs.contracts.save as save
 use Rattle.records.proofs.save.Reads as save-reads
 use Rattle.records.specs.contracts.load as load
 use Rattle.records.proofs.load.Reads as load-reads
 
--- an answer and a half-read message as one struct
-abbrev whole : Answer × HalfRead → Loaded
-whole p = record { answer = p.0; half = p.1 }
-
 pub save-settled : Settles {A = Answer × List ℕ} save.ended save-reads.Learnt (λ κs r x. (r, x.1.0.now))
 save-settled κs a r s x y = answer-both
 
 pub load-settled : Settles load.ended load-reads.Learnt (λ κs r x. r)
-load-settled κs a r s x y j k = ap whole (answer-both j k)
+load-settled κs a r s x y = handed-settled r s

@@ -1,23 +1,24 @@
-// The saved record: SPEC, "The saved record". Written from a state and saved; its fields read back and loaded.
+// The saved record: SPEC, "The saved record". Whole from a state and saved; its fields read back and loaded.
 #![tactic(auto)]
 
-ghost use Rattle.std.specs.Prelude.{◌≡◌, take};
-ghost use Rattle.answers.specs.Judged.{Judged};
+ghost use Rattle.std.specs.Prelude.{◌≡◌, ◌≤◌, ℕ, List, length, take};
+ghost use Rattle.answers.specs.Judged.{handed, Judged};
 ghost use Rattle.answers.specs.Numbers.{number_of};
 ghost use Rattle.slices.specs.AtFront.{at_front};
+ghost use Rattle.slices.specs.Tests.{same};
 ghost use Rattle.halfread.specs.State.{blank};
 ghost use Rattle.records.specs.Record.{newest, tail_at, record_length, record_of, save_tests, loaded, load_tests};
 
-use answers::Answer;
+use answers::{Answer, Refusal};
 use bigendian::rows::{field, put_row};
 use fips::lookup::block_bytes;
 use halfread::HalfRead;
 use halfread::sound::is_sound;
-use halfread::state::blank;
 use halfread::tail::{padded, tail_length};
 use slices::front::put_front;
 use slices::places::part;
-use slices::same::same_bytes;
+use slices::same::same;
+use std::marker::Model;
 
 // The newest form: the bytes of a number, where the count begins and the bytes that it takes, the zeros that close the header, and where
 // the words begin, behind four numbers, the count, two numbers and the zeros.
@@ -41,22 +42,43 @@ fn tail_at(edition: u64) -> usize
     WORDS_AT + block_bytes(edition) / 2
 }
 
-fn record_length(half: HalfRead) -> usize
-    ensures { result ≡ record_length half }
+fn record_length(half: &HalfRead) -> usize
+    ensures { result ≡ record_length half.now }
 {
     tail_at(half.edition) + tail_length(half.edition, half.count)
 }
 
-// The record at the front of a buffer that has room for the longest: the header field by field, the words, the tail.
-fn record_of(half: HalfRead) -> [u8; LONGEST]
-    ensures { take (record_length half) result ≡ record_of half }
+// A whole record, at the front of a buffer that has room for the longest.
+#[derive(Drop)]
+struct Whole {
+    buffer: [u8; LONGEST],
+    len: usize,
+}
+
+impl Model for Whole {
+    ghost Value = { List ℕ };
+
+    ghost view = { λ r. take r.len r.buffer };
+
+    ghost invariant = { λ r. r.len ≤ length r.buffer };
+}
+
+impl Whole {
+    fn bytes(&self) -> &[u8]
+        ensures { result.now ≡ self.now }
+    {
+        &self.buffer[..self.len]
+    }
+}
+
+// The record of a message: the header field by field, the words, the tail.
+fn record_of(half: &HalfRead) -> Whole
+    ensures { result ≡ record_of half.now }
 {
     let edition = half.edition;
-    let words = half.words;
-    let tail = half.tail;
     let end = tail_length(edition, half.count);
     let at = tail_at(edition);
-    let whole = record_length(half);
+    let len = record_length(half);
     let sizes = [
         NUMBER,
         NUMBER,
@@ -74,14 +96,18 @@ fn record_of(half: HalfRead) -> [u8; LONGEST]
         at as u64,
         half.count,
         end as u64,
-        whole as u64,
+        len as u64,
         0,
     ];
-    let mut bytes = [0u8; LONGEST];
-    put_row(&mut bytes, &sizes, &values);
-    bigendian::put_words(&mut bytes[WORDS_AT..], &words, block_bytes(edition) / 16);
-    put_front(&mut bytes[at..], &tail[..end]);
-    bytes
+    let mut buffer = [0u8; LONGEST];
+    put_row(&mut buffer, &sizes, &values);
+    bigendian::put_words(
+        &mut buffer[WORDS_AT..],
+        &half.words,
+        block_bytes(edition) / 16,
+    );
+    put_front(&mut buffer[at..], &half.tail[..end]);
+    Whole { buffer, len }
 }
 
 pub fn save(half: HalfRead, out: &mut [u8]) -> Answer
@@ -89,15 +115,13 @@ pub fn save(half: HalfRead, out: &mut [u8]) -> Answer
         out.new }
 {
     if !is_sound(half) {
-        return Answer::NotSound;
+        return Err(Refusal::NotSound);
     }
-    let size = record_length(half);
-    if out.len() < size {
-        return Answer::ShortOutput;
+    if out.len() < record_length(&half) {
+        return Err(Refusal::ShortOutput);
     }
-    let bytes = record_of(half);
-    put_front(out, &bytes[..size]);
-    Answer::Done
+    put_front(out, record_of(&half).bytes());
+    Ok(())
 }
 
 // The state that the fields of any bytes give; whether they are a record is not asked here.
@@ -121,36 +145,23 @@ fn fields(bytes: &[u8]) -> HalfRead
     }
 }
 
-#[derive(Clone, Copy)]
-pub struct Loaded {
-    pub answer: Answer,
-    pub half: HalfRead,
-}
-
-fn refused() -> Loaded
-    ensures { (result.answer ≡ Answer.BadRecord) × (result.half ≡ blank) }
+// Whether the bytes are the record of a message.
+fn is_record_of(half: &HalfRead, bytes: &[u8]) -> bool
+    ensures { result ≡ same (record_of half.now) bytes.now }
 {
-    Loaded {
-        answer: Answer::BadRecord,
-        half: blank(),
-    }
+    same(record_of(half).bytes(), bytes)
 }
 
 // The fields make a state, whose record is compared with what was lent: that checks every count and offset, the zeros and the length.
-pub fn load(lent: &[u8]) -> Loaded
-    ensures { Judged (load_tests lent.now) blank (loaded lent.now) (number_of result.answer) result.half }
+pub fn load(lent: &[u8]) -> Result<HalfRead, Refusal>
+    ensures { Judged (load_tests lent.now) blank (loaded lent.now) (number_of result) (handed blank result) }
 {
     let half = fields(lent);
     if !is_sound(half) {
-        return refused();
+        return Err(Refusal::BadRecord);
     }
-    let bytes = record_of(half);
-    let size = record_length(half);
-    if !same_bytes(&bytes[..size], lent) {
-        return refused();
+    if !is_record_of(&half, lent) {
+        return Err(Refusal::BadRecord);
     }
-    Loaded {
-        answer: Answer::Done,
-        half,
-    }
+    Ok(half)
 }

@@ -1,5 +1,5 @@
 -- What the answer of a read says, by the bits in which the machine holds its two numbers: `not_there`, `no-permission`, `folder` and
--- `failed` are the reasons of an error's number, and `bytes`, `end`, `again` and `nothing` what was brought.
+-- `failed` are the reasons of an error's number, and `compared`, `again` and `nothing` what was brought.
 use Prim.Native.Nat.{ℕ, zero, suc, ◌<◌}
 use mathlib.Core.Bool.{true, false, cond}
 use mathlib.Core.List.{[], ◌∷◌}
@@ -7,11 +7,12 @@ use mathlib.Core.Logic.{inl, inr}
 use mathlib.Core.Path.{◌≡◌, refl, sym, ap, ◌∙◌}
 use native.Mathlib.Omega.{arith}
 use lib.IntN.{ℤ, pos, negsuc}
-use lib.Signed.{lt_z}
+use mir.Facts.{to_z-of_z}
 use mir.Syntax.{w32, w64}
-use mir.Val.{of_z, SFits}
+use mir.Val.{of_z, to_z, SFits}
 use types.Run.{OneOf}
-use borrow.Author.Tests.{ltb-true, ltb-false, ne_eqb}
+use Rattle.std.proofs.Common.{Ordering, Less, Equal, Greater, int_cmp}
+use borrow.Author.Tests.{lt-ltb, le-ltb, ne_eqb}
 use Rattle.lines.specs.declared.Why.{Why}
 use Rattle.report.specs.declared.Brought.{Brought}
 use Rattle.report.specs.Reads.{why_of, interrupted, brought}
@@ -58,40 +59,33 @@ module _ (z : ℤ) (f : SFits w32 z) where
 
 -- ---- what was brought
 
-pub bytes : (z e : ℤ) → lt_z (pos 0) z ≡ true → Brought.Bytes ≡ brought z e
+-- by how the read's answer compares with 0
+abbrev by_order : Ordering → ℤ → Brought
+by_order Greater e = Brought.Bytes
+by_order Equal e = Brought.End
+by_order Less e = cond (interrupted e) Brought.Again (Brought.Nothing (why_of e))
+
+ordered : (z e : ℤ) → by_order (int_cmp z (pos 0)) e ≡ brought z e
 unfolding brought
-bytes (pos zero) e h = absurd (omega (arith, ltb-true 0 0 h))
-bytes (pos (suc n)) e h = refl
-bytes (negsuc n) e h = absurd (omega (arith, ltb-true 0 0 h))
+ordered (pos zero) e = refl
+ordered (pos (suc n)) e = rw (le-ltb (suc n) 0 (omega arith), lt-ltb 0 (suc n) (omega arith))
+ordered (negsuc n) e = refl
 
-pub end : (z e : ℤ) → SFits w64 z → of_z w64 z ≡ 0 → Brought.End ≡ brought z e
-unfolding brought
-end (pos zero) e f h = refl
-end (pos (suc n)) e f h = absurd (omega arith)
-end (negsuc n) e f h = absurd (omega (arith, f.sfits))
+module _ (z e : ℤ) (f : SFits w64 z) {o : Ordering} (is : o ≡ int_cmp (to_z w64 (of_z w64 z)) (pos 0)) where
+  pub compared : (r : Ordering) → o ≡ r → by_order r e ≡ brought z e
+  compared r h = ap (λ (p : Ordering). by_order p e) (sym h ∙ is ∙ ap (λ (y : ℤ). int_cmp y (pos 0)) (to_z-of_z f)) ∙ ordered z e
 
--- a read that answered no number of bytes
-module _ (z e : ℤ) (none-more : lt_z (pos 0) z ≡ false) (not_end : of_z w64 z ≡ 0 → ⊥) where
-  failing : brought z e ≡ cond (interrupted e) Brought.Again (Brought.Nothing (why_of e))
-  unfolding brought
-  failing = go z none-more not_end
-    where
-      go : (y : ℤ) → lt_z (pos 0) y ≡ false → (of_z w64 y ≡ 0 → ⊥) →
-          brought y e ≡ cond (interrupted e) Brought.Again (Brought.Nothing (why_of e))
-      go (pos zero) h g = absurd (g refl)
-      go (pos (suc n)) h g = absurd (omega (arith, ltb-false 0 (suc n) h))
-      go (negsuc n) h g = refl
+  module _ (less : o ≡ Less) where
+    pub again : SFits w32 e → of_z w32 e ≡ 4 → Brought.Again ≡ brought z e
+    again g h = rw (signal e g h) at (compared Less less)
+      where
+        signal : (y : ℤ) → SFits w32 y → of_z w32 y ≡ 4 → interrupted y ≡ true
+        signal (pos n) g k = rw k
+        signal (negsuc n) g k = absurd (omega (arith, g.sfits))
 
-  pub again : SFits w32 e → of_z w32 e ≡ 4 → Brought.Again ≡ brought z e
-  again f h = sym (failing ∙ rw (signal e f h))
-    where
-      signal : (y : ℤ) → SFits w32 y → of_z w32 y ≡ 4 → interrupted y ≡ true
-      signal (pos n) g k = rw k
-      signal (negsuc n) g k = absurd (omega (arith, g.sfits))
-
-  pub nothing : (w : Why) → w ≡ why_of e → (of_z w32 e ≡ 4 → ⊥) → Brought.Nothing w ≡ brought z e
-  nothing w is h = sym (failing ∙ rw (no-signal e h, ← is))
-    where
-      no-signal : (y : ℤ) → (of_z w32 y ≡ 4 → ⊥) → interrupted y ≡ false
-      no-signal (pos n) k = ne_eqb n 4 k
-      no-signal (negsuc n) k = refl
+    pub nothing : (w : Why) → w ≡ why_of e → (of_z w32 e ≡ 4 → ⊥) → Brought.Nothing w ≡ brought z e
+    nothing w is h = ap Brought.Nothing is ∙ rw (no-signal e h) at (compared Less less)
+      where
+        no-signal : (y : ℤ) → (of_z w32 y ≡ 4 → ⊥) → interrupted y ≡ false
+        no-signal (pos n) k = ne_eqb n 4 k
+        no-signal (negsuc n) k = refl

@@ -4,6 +4,7 @@ use Prim.Native.Nat.{ℕ}
 use mathlib.Core.Bool.{Bool, true, false, cond}
 use mathlib.Core.List.{List, [], ◌∷◌, ◌++◌}
 use mathlib.Core.Path.{◌≡◌, refl, sym, ap, subst, ◌∙◌}
+use Rattle.std.specs.Prelude.{Option, None, Some}
 use Rattle.slices.specs.Below.{Bytes}
 use Rattle.fips.specs.Editions.{known}
 use Rattle.lists.specs.Calls.{pair_in}
@@ -14,7 +15,6 @@ use Rattle.lines.specs.declared.Verdict.{Verdict}
 use Rattle.lines.specs.declared.Why.{Why}
 use Rattle.report.specs.declared.Brought.{Brought}
 use Rattle.report.specs.declared.Ending.{Ending}
-use Rattle.report.specs.declared.Turn.{Turn}
 use Rattle.report.specs.Report.{verdict}
 use Rattle.report.specs.Code.Files.{begun, fits, after_piece, turn_of, after_turn, ends_as, ending, after_all, said, AllBytes}
 use Rattle.report.specs.Code.Files.{up_to_failure, Reading}
@@ -23,13 +23,13 @@ use Rattle.report.proofs.Verdicts.{file-verdict}
 
 -- ---- cases of an enum that exclude each other
 
-abbrev GoesOn : Turn → Type 0
-GoesOn Turn.GoesOn = Unit {0}
-GoesOn (Turn.Ends e) = ⊥
+abbrev GoesOn : Option Ending → Type 0
+GoesOn None = Unit {0}
+GoesOn (Some e) = ⊥
 
-abbrev end_of : Turn → Ending
-end_of Turn.GoesOn = Ending.Whole
-end_of (Turn.Ends e) = e
+abbrev end_of : Option Ending → Ending
+end_of None = Ending.Whole
+end_of (Some e) = e
 
 -- ---- one piece more
 
@@ -86,37 +86,37 @@ module _ (t : List ℕ) where
           leaves = sym (last.1 ∙ rw (← r.leaves) (either-after left p));
         }
 
-    on-piece : (b : Bool) → fits left p ≡ b → Turn.GoesOn ≡ cond b Turn.GoesOn (Turn.Ends Ending.TooLong) →
+    on-piece : (b : Bool) → fits left p ≡ b → None ≡ cond b None (Some Ending.TooLong) →
         Reading t Ending.Whole (after_piece left p)
     unfolding ending after_all
     on-piece true e h = more Ending.Whole (rw e)
     on-piece false e h = absurd (subst GoesOn h tt)
 
-    end-piece : (e : Ending) (b : Bool) → fits left p ≡ b → Turn.Ends e ≡ cond b Turn.GoesOn (Turn.Ends Ending.TooLong) →
+    end-piece : (e : Ending) (b : Bool) → fits left p ≡ b → Some e ≡ cond b None (Some Ending.TooLong) →
         Reading t e (after_piece left p)
     unfolding ending after_all
     end-piece e true k h = absurd (subst GoesOn (sym h) tt)
     end-piece e false k h = more e (rw (k, ap end_of h))
 
-    on : (b : Brought) → Turn.GoesOn ≡ turn_of left p b → {after : List ℕ} → after ≡ after_turn left p b → Reading t Ending.Whole after
+    on : (b : Brought) → None ≡ turn_of left p b → {after : List ℕ} → after ≡ after_turn left p b → Reading t Ending.Whole after
     unfolding turn_of after_turn
     on Brought.Bytes h a = rw a (on-piece (fits left p) refl h)
     on Brought.End h a = absurd (subst GoesOn h tt)
     on Brought.Again h a = rw a r
     on (Brought.Nothing why) h a = absurd (subst GoesOn h tt)
 
-    pub goes_on : (turn : Turn) (b : Brought) → turn ≡ Turn.GoesOn → turn ≡ turn_of left p b →
+    pub goes_on : (turn : Option Ending) (b : Brought) → turn ≡ None → turn ≡ turn_of left p b →
         {after : List ℕ} → after ≡ after_turn left p b → Reading t Ending.Whole after
     goes_on turn b k h a = on b (sym k ∙ h) a
 
-    end : (e : Ending) (b : Brought) → Turn.Ends e ≡ turn_of left p b → {after : List ℕ} → after ≡ after_turn left p b → Reading t e after
+    end : (e : Ending) (b : Brought) → Some e ≡ turn_of left p b → {after : List ℕ} → after ≡ after_turn left p b → Reading t e after
     unfolding turn_of after_turn
     end e Brought.Bytes h a = rw a (end-piece e (fits left p) refl h)
     end e Brought.End h a = rw (a, ap end_of h) r
     end e Brought.Again h a = absurd (subst GoesOn (sym h) tt)
     end e (Brought.Nothing why) h a = rw (a, ap end_of h) (breaks-off why r)
 
-    pub stops : (e : Ending) (turn : Turn) (b : Brought) → turn ≡ Turn.Ends e → turn ≡ turn_of left p b →
+    pub stops : (e : Ending) (turn : Option Ending) (b : Brought) → turn ≡ Some e → turn ≡ turn_of left p b →
         {after : List ℕ} → after ≡ after_turn left p b → Reading t e after
     stops e turn b k h a = end e b (sym k ∙ h) a
 

@@ -2,10 +2,11 @@
 -- what is answered, and the table that is left.
 use Prim.Native.Nat.{ℕ}
 use mathlib.Core.List.{List}
+use Rattle.std.specs.Prelude.{Option}
 use Rattle.contracts.specs.Says.{Settles}
 use Rattle.contracts.proofs.Values.{value-settled, both-settled}
 use Rattle.lines.specs.declared.Verdict.{Verdict}
-use Rattle.report.specs.declared.Turn.{Turn}
+use Rattle.report.specs.declared.Ending.{Ending}
 use Rattle.report.specs.contracts.file.begin as begin
 use Rattle.report.proofs.file.begin.Reads as begin-reads
 use Rattle.report.specs.contracts.file.turn as turn
@@ -20,7 +21,7 @@ use Rattle.report.proofs.reads.brought.Reads as brought-reads
 pub begin-settled : Settles begin.ended begin-reads.Learnt (λ κs r x. x.0.now)
 begin-settled κs a r s x y = value-settled
 
-pub turn-settled : Settles {A = Turn × List ℕ} turn.ended turn-reads.Learnt (λ κs r x. (r, x.0.now))
+pub turn-settled : Settles {A = Option Ending × List ℕ} turn.ended turn-reads.Learnt (λ κs r x. (r, x.0.now))
 turn-settled κs a r s x y p q = both-settled (p.0, p.1.0) (q.0, q.1.0)
 
 pub verdict-settled : Settles {A = Verdict × List ℕ} verdict.ended verdict-reads.Learnt (λ κs r x. (r, x.1.0.now))

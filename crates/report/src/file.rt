@@ -7,17 +7,16 @@ ghost use Rattle.lists.specs.Layout.{edition_in};
 ghost use Rattle.report.specs.Reads.{piece, brought};
 ghost use Rattle.report.specs.Code.Files.{begun, after_piece, fits, turn_of, after_turn, judged, after_close, ends_as, left_by};
 
-use crate::{Brought, Ending, Turn, reads};
+use crate::{Brought, Ending, reads};
 use lines::Verdict;
 use lists::entries;
-use slices::places::least;
 
 // The bay is laid out anew, so that nothing of the last file is left.
 pub fn begin(table: &mut [u64], list: &[u8])
     ensures { table.new ≡ begun table.old (edition_in list.now) }
 {
-    calls::lay_out(table, 1);
-    calls::open(table, 0, entries::edition(list));
+    let _ = calls::lay_out(table, 1);
+    let _ = calls::open(table, 0, entries::edition(list));
 }
 
 // Whether the piece was taken: one that makes the file longer than the limit is not.
@@ -25,7 +24,7 @@ fn take(table: &mut [u64], piece: &[u8]) -> bool
     ensures value { result ≡ fits table.old piece.now }
     ensures table_after { table.new ≡ after_piece table.old piece.now }
 {
-    answers::number(calls::add(table, 0, piece)) == 0
+    calls::add(table, 0, piece).is_ok()
 }
 
 // How many bytes the piece has that a read answered: none where it failed, and never more than the buffer.
@@ -33,16 +32,12 @@ fn count(got: isize, buffer: &[u8]) -> usize
     ensures within { result ≤ length buffer.now }
     ensures value { take result buffer.now ≡ piece got buffer.now }
 {
-    if got > 0 {
-        least(got as usize, buffer.len())
-    } else {
-        0
-    }
+    usize::try_from(got).map_or(0, |n| n.min(buffer.len()))
 }
 
-// What a read into a buffer answered is seen to: its bytes are taken, or reading ends. The caller is told that they are bytes.
+// What a read into a buffer answered is seen to: its bytes are taken, or reading ends, and how. The caller is told that they are bytes.
 #[tactic(auto, unfolding(crate::specs::Code::Files::turn_of, crate::specs::Code::Files::after_turn))]
-pub fn turn(table: &mut [u64], buffer: &[u8], got: isize, errno: i32) -> Turn
+pub fn turn(table: &mut [u64], buffer: &[u8], got: isize, errno: i32) -> Option<Ending>
     ensures value { result ≡ turn_of table.old (piece got buffer.now) (brought got errno) }
     ensures table_after { table.new ≡ after_turn table.old (piece got buffer.now) (brought got errno) }
     ensures bytes { Bytes (piece got buffer.now) }
@@ -51,14 +46,14 @@ pub fn turn(table: &mut [u64], buffer: &[u8], got: isize, errno: i32) -> Turn
         Brought::Bytes => {
             let n = count(got, buffer);
             if take(table, &buffer[..n]) {
-                Turn::GoesOn
+                None
             } else {
-                Turn::Ends(Ending::TooLong)
+                Some(Ending::TooLong)
             }
         }
-        Brought::End => Turn::Ends(Ending::Whole),
-        Brought::Again => Turn::GoesOn,
-        Brought::Nothing(why) => Turn::Ends(Ending::Unread(why)),
+        Brought::End => Some(Ending::Whole),
+        Brought::Again => None,
+        Brought::Nothing(why) => Some(Ending::Unread(why)),
     }
 }
 
@@ -68,11 +63,11 @@ fn judge(table: &mut [u64], list: &[u8], i: usize) -> Verdict
     ensures table_after { table.new ≡ after_close table.old }
 {
     let mut out = [0u8; 64];
-    if answers::number(calls::close(table, 0, 0, 0, &mut out)) != 0 {
+    if calls::close(table, 0, 0, 0, &mut out).is_err() {
         return Verdict::Bad;
     }
     let size = fips::lookup::digest_bytes(entries::edition(list));
-    if slices::same::same_bytes(&out[..size], entries::digest(list, i)) {
+    if slices::same::same(&out[..size], entries::digest(list, i)) {
         return Verdict::Ok;
     }
     Verdict::Bad

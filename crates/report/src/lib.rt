@@ -8,7 +8,7 @@ pub mod reads; // reads.rt: what the answer of a read says
 use lines::Why;
 
 // How reading a file ended.
-#[derive(Clone, Copy)]
+#[derive(Clone, Copy, Debug, PartialEq, Eq)]
 pub enum Ending {
     // all of its bytes were taken
     Whole,
@@ -19,7 +19,7 @@ pub enum Ending {
 }
 
 // What a read brought.
-#[derive(Clone, Copy)]
+#[derive(Clone, Copy, Debug, PartialEq, Eq)]
 pub enum Brought {
     // bytes, at the front of its buffer
     Bytes,
@@ -29,11 +29,4 @@ pub enum Brought {
     Again,
     // none, since it failed
     Nothing(Why),
-}
-
-// Whether reading goes on after a read, or how it ended.
-#[derive(Clone, Copy)]
-pub enum Turn {
-    GoesOn,
-    Ends(Ending),
 }

@@ -4,6 +4,7 @@ ghost use Rattle.report.specs.Reads.{why_of, brought};
 
 use crate::Brought;
 use lines::Why;
+use std::cmp::Ordering;
 
 // The numbers of errors, as Linux has them.
 const EPERM: i32 = 1;
@@ -34,14 +35,10 @@ pub fn reason(errno: i32) -> Why
 pub fn brought(got: isize, errno: i32) -> Brought
     ensures { result ≡ brought got errno }
 {
-    if got > 0 {
-        return Brought::Bytes;
+    match got.cmp(&0) {
+        Ordering::Greater => Brought::Bytes,
+        Ordering::Equal => Brought::End,
+        Ordering::Less if errno == EINTR => Brought::Again,
+        Ordering::Less => Brought::Nothing(reason(errno)),
     }
-    if got == 0 {
-        return Brought::End;
-    }
-    if errno == EINTR {
-        return Brought::Again;
-    }
-    Brought::Nothing(reason(errno))
 }

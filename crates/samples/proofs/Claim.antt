@@ -14,7 +14,7 @@ use Rattle.fips.specs.Editions.{editions, edition, digest}
 use Rattle.fips.specs.Message.{message, bytes_in}
 use Rattle.fips.specs.Code.ByteForm.{parse_bytes}
 use Rattle.slices.specs.AtFront.{at_front}
-use Rattle.slices.specs.Tests.{same}
+use Rattle.slices.specs.Tests.{same, same_by}
 use Rattle.slices.proofs.Tests.{cond_both, same-eq}
 use Rattle.bigendian.specs.Rows.{row_bytes}
 use Rattle.dwsha2.specs.Closing.{closing_fits}
@@ -37,7 +37,7 @@ agree-hold (s ∷ ss) e =
     (same-eq s.given s.said p.0, agree-hold ss p.1)
 
 test : agree table ≡ true
-unfolding table be number to_words from_words bits value bits_of pieces primes primes_below is_prime undivided root_word root next schedule round rounds block blocks zeros pad parse round_words hash_from start224 start256 start384 start512 ascii generated editions edition digest message bytes_in zip_with parse_bytes at_front fit absorbed opened added record_in header row_bytes list_bytes entry_bytes entry_run name_run closing_fits sha256 leaf parent power_to power_below split_in split same
+unfolding table be number to_words from_words bits value bits_of pieces primes primes_below is_prime undivided root_word root next schedule round rounds block blocks zeros pad parse round_words hash_from start224 start256 start384 start512 ascii generated editions edition digest message bytes_in zip_with parse_bytes at_front fit absorbed opened added record_in header row_bytes list_bytes entry_bytes entry_run name_run closing_fits sha256 leaf parent power_to power_below split_in split same_by
 test = refl
 
 pub samples : Hold table

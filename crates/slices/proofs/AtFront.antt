@@ -1,61 +1,34 @@
--- Writing at the front of an output: laws of `at_front`, and of the loop that writes it. What is behind stays (`drop-front`), so that of
--- two
--- writings of one length the later counts (`front-again`).
-use Prim.Native.Nat.{ℕ, zero, suc, ◌+◌, ◌-◌, ◌≤◌, ◌<◌}
+-- Writing at the front of an output: laws of `at_front`. As many as both have, copied over the front, are it (`front-copied`). What is
+-- behind stays (`drop-front`), so that of two writings of one length the later counts (`front-again`).
+use Prim.Native.Nat.{ℕ, zero, suc, ◌+◌, ◌-◌, ◌≤◌, min}
 use mathlib.Core.Bool.{Bool, true, false}
 use mathlib.Core.List.{List, ◌∷◌, ◌++◌, append-nil}
 use mathlib.Core.Path.{◌≡◌, refl, sym, ap, ap₂, ◌∙◌}
 use native.Mathlib.Nat.{not-suc-le-zero, le_of_suc-le-suc, sub-zero, zero-sub, suc-sub-suc}
-use native.Mathlib.Numerals.{add-one}
 use native.Mathlib.Omega.{arith}
 use borrow.Author.Tests.{leb-true, leb-false}
 use lib.Dec.{leb}
-use lib.ListN.{length, take, drop, set, get_or, length-append, length-take, length-drop, length-set, replicate, drop_of_length-le}
-use lib.Seq.{take_all, take-length, drop-length, drop_at, take-suc, drop-cons, set_at, append_snoc, length-take-le}
+use lib.ListN.{length, take, drop, length-append, length-take, length-drop, replicate, drop_of_length-le}
+use lib.Seq.{take_all, take-length, drop-length, drop_at}
 use Rattle.slices.specs.AtFront.{at_front}
 use Rattle.slices.specs.Below.{Below}
 use Rattle.slices.proofs.Below.{below-append, below-take, below-drop}
 
--- i bytes are written
-pub record Written (bytes out₀ out : List ℕ) (i : ℕ) : Type 0 where
-  pub within : i ≤ length out₀
-  pub given : i ≤ length bytes
-  pub is : out ≡ take i bytes ++ drop i out₀
-  pub long : length out ≡ length out₀
-
-pub written_none : (bytes out : List ℕ) → Written bytes out out 0
-written_none bytes out = record { within = omega arith; given = omega arith; is = refl; long = refl }
-
-one_more : (bytes out₀ : List ℕ) (i : ℕ) → i < length out₀ → i < length bytes →
-    set (take i bytes ++ drop i out₀) i (get_or bytes i 0) ≡ take (suc i) bytes ++ drop (suc i) out₀
-one_more bytes out₀ i h k =
-    rw (drop-cons out₀ i 0 h)
-    (set_at (take i bytes) (get_or out₀ i 0) (drop (suc i) out₀) (get_or bytes i 0) i (length-take-le i bytes (omega arith))
-    ∙ sym (append_snoc (take i bytes) (get_or bytes i 0) (drop (suc i) out₀))
-    ∙ ap (λ (l : List ℕ). l ++ drop (suc i) out₀) (sym (take-suc bytes i 0 k)))
-
-pub written-more : (bytes out₀ out : List ℕ) (i : ℕ) → i < length out → i < length bytes → Written bytes out₀ out i →
-    Written bytes out₀ (set out i (get_or bytes i 0)) (i + 1)
-written-more bytes out₀ out i h k w =
-    record {
-      within = omega arith;
-      given = omega arith;
-      is = rw add-one (ap (λ (l : List ℕ). set l i (get_or bytes i 0)) w.is ∙ one_more bytes out₀ i (omega arith) k);
-      long = length-set out i (get_or bytes i 0) ∙ w.long;
-    }
-
--- all the bytes, or all the output
-pub written_all : (bytes out₀ out : List ℕ) (i : ℕ) → Written bytes out₀ out i → length bytes ≤ i → out ≡ at_front bytes out₀
+-- as many as both have, copied over the front
+pub front-copied : {A : Type 0} (n : ℕ) (new out : List A) → n ≡ min (length out) (length new) →
+    take n new ++ drop n out ≡ at_front new out
 unfolding at_front
-written_all bytes out₀ out i w h =
-    let e : i ≡ length bytes = omega arith in
-    w.is ∙ rw (e, take-length bytes, take_all (length out₀) bytes (omega arith))
-
-pub written-full : (bytes out₀ out : List ℕ) (i : ℕ) → Written bytes out₀ out i → length out ≤ i → out ≡ at_front bytes out₀
-unfolding at_front
-written-full bytes out₀ out i w h =
-    let e : i ≡ length out₀ = omega arith in
-    w.is ∙ rw (e, drop-length out₀, drop_of_length-le out₀ {i = length bytes} (omega arith))
+front-copied n new out e = go (leb (length new) (length out)) refl
+  where
+    go : (b : Bool) → leb (length new) (length out) ≡ b → take n new ++ drop n out ≡ at_front new out
+    go true h =
+        let fits = leb-true (length new) (length out) h in
+        let k : n ≡ length new = omega arith in
+        rw (k, take-length new, take_all (length out) new fits)
+    go false h =
+        let short = leb-false (length new) (length out) h in
+        let k : n ≡ length out = omega arith in
+        rw (k, drop-length out, drop_of_length-le out {i = length new} (omega arith))
 
 pub length-at_front : (bytes out : List ℕ) → length (at_front bytes out) ≡ length out
 unfolding at_front

@@ -2,6 +2,7 @@
 use Prim.Native.Nat.{ℕ, zero, suc, ◌<◌, ◌≤◌}
 use mathlib.Core.Bool.{Bool, true, false, cond, ◌&&◌, false≢true}
 use mathlib.Core.List.{List, [], ◌∷◌}
+use mathlib.Core.Logic.{◌⊎◌, inl, inr}
 use mathlib.Core.Path.{◌≡◌, refl, sym, ap, ap₂, ◌∙◌}
 use native.Mathlib.Nat.{not-suc-le-zero, le_of_suc-le-suc}
 use native.Mathlib.Omega.{arith}
@@ -10,7 +11,7 @@ use lib.ListN.{length, get_or, drop, replicate, drop_of_length-le}
 use lib.Seq.{drop-cons}
 use borrow.Author.Tests.{lt-ltb, ltb-true, eq-eqb, eqb-true}
 use Rattle.slices.specs.Below.{Below}
-use Rattle.slices.specs.Tests.{holds, every, all_below, all_zero, same}
+use Rattle.slices.specs.Tests.{holds, every, all_below, all_zero, same, same_by}
 use Rattle.slices.proofs.Below.{below-nil, below-cons}
 
 -- ---- two conditions
@@ -93,14 +94,20 @@ module _ (p : ℕ → Bool) (xs : List ℕ) (i : ℕ) where
   unfolding every
   every-stop h e = rw (drop-cons xs i 0 h, e)
 
-  -- without a way out: what was found so far, and what is left
-  pub every-on : (b : Bool) → i < length xs → (b && every p (drop i xs)) ≡ ((b && p (get_or xs i 0)) && every p (drop (suc i) xs))
-  unfolding every
-  every-on b h = rw (drop-cons xs i 0 h) (and-cond b (p (get_or xs i 0)) (every p (drop (suc i) xs)))
-
   pub every-end : length xs ≤ i → every p (drop i xs) ≡ true
   unfolding every
   every-end h = rw (drop_of_length-le xs {i = i} h)
+
+-- the loop without a way out, over any elements: what was found so far, and what is left from i, decide
+module _ {A : Type 0} (p : A → Bool) (xs : List A) (i : ℕ) where
+  pub every-on : (b : Bool) (x : A) → i < length xs → x ≡ get_or xs i x →
+      (b && every p (drop i xs)) ≡ ((b && p x) && every p (drop (suc i) xs))
+  unfolding every
+  every-on b x h e = rw (drop-cons xs i x h, ← e) (and-cond b (p x) (every p (drop (suc i) xs)))
+
+  pub every-left : (b : Bool) → length xs ≤ i → (b && every p (drop i xs)) ≡ b
+  unfolding every
+  every-left b h = rw (drop_of_length-le xs {i = i} h) (and-true b)
 
 -- ---- bounds, zeros
 
@@ -132,12 +139,12 @@ zeros-all_zero (suc n) = zeros-all_zero n
 -- ---- two lists
 
 pub same_refl : (xs : List ℕ) → same xs xs ≡ true
-unfolding same
+unfolding same_by
 same_refl [] = refl
 same_refl (x ∷ xs) = rw (eq-eqb x x refl) (same_refl xs)
 
 pub same-eq : (xs ys : List ℕ) → same xs ys ≡ true → xs ≡ ys
-unfolding same
+unfolding same_by
 same-eq [] [] e = refl
 same-eq [] (y ∷ ys) e = absurd (false≢true e)
 same-eq (x ∷ xs) [] e = absurd (false≢true e)
@@ -151,33 +158,36 @@ eq-same xs ys e = rw (← e) (same_refl xs)
 pub same-apart : (xs ys : List ℕ) → (xs ≡ ys → ⊥) → same xs ys ≡ false
 same-apart xs ys h = is_false (same xs ys) (λ e. h (same-eq xs ys e))
 
-pub same-lengths : (xs ys : List ℕ) → (length xs ≡ length ys → ⊥) → same xs ys ≡ false
-same-lengths xs ys h = same-apart xs ys (λ e. h (ap length e))
+-- ---- two lists of any elements, by a test of two
 
--- the loop: what was found so far, and what is left from i of both, decide
-pub record Compared (xs ys : List ℕ) (found : Bool) (i : ℕ) : Type 0 where
-  pub within : i ≤ length xs
-  pub long : length xs ≡ length ys
-  pub left : same xs ys ≡ (found && same (drop i xs) (drop i ys))
+module _ {A : Type 0} (eq : A → A → Bool) where
+  -- of different lengths
+  pub same_by-lengths : (xs ys : List A) → (length xs ≡ length ys → ⊥) → same_by eq xs ys ≡ false
+  unfolding same_by
+  same_by-lengths [] [] h = absurd (h refl)
+  same_by-lengths [] (y ∷ ys) h = refl
+  same_by-lengths (x ∷ xs) [] h = refl
+  same_by-lengths (x ∷ xs) (y ∷ ys) h = cond-not (eq x y) (same_by eq xs ys) (same_by-lengths xs ys (λ e. h (ap suc e)))
 
-module _ (xs ys : List ℕ) where
-  pub compared-none : length xs ≡ length ys → Compared xs ys true 0
-  compared-none e = record { within = omega arith; long = e; left = refl }
+  -- the loop: what was found so far, and what is left of both, decide
+  pub record Compared (xs ys : List A) (found : Bool) (left right : List A) : Type 0 where
+    pub long : length left ≡ length right
+    pub decides : same_by eq xs ys ≡ (found && same_by eq left right)
 
-  pub compared-more : (b : Bool) (i : ℕ) → i < length xs → Compared xs ys b i →
-      Compared xs ys (b && eqb (get_or xs i 0) (get_or ys i 0)) (suc i)
-  unfolding same
-  compared-more b i h c =
-      record {
-        within = h;
-        long = c.long;
-        left =
-            c.left
-            ∙ rw (drop-cons xs i 0 h, drop-cons ys i 0 (omega arith))
-            (and-cond b (eqb (get_or xs i 0) (get_or ys i 0)) (same (drop (suc i) xs) (drop (suc i) ys)));
-      }
+  module _ {xs ys : List A} where
+    pub compared-none : length xs ≡ length ys → Compared xs ys true xs ys
+    compared-none e = record { long = e; decides = refl }
 
-  pub compared-all : (b : Bool) (i : ℕ) → length xs ≤ i → Compared xs ys b i → b ≡ same xs ys
-  unfolding same
-  compared-all b i h c =
-      sym (c.left ∙ rw (drop_of_length-le xs {i = i} h, drop_of_length-le ys {i = i} (omega arith)) (and-true b))
+    pub compared-more : {b : Bool} {x y : A} {left right : List A} → Compared xs ys b (x ∷ left) (y ∷ right) →
+        Compared xs ys (b && eq x y) left right
+    unfolding same_by
+    compared-more {b} {x} {y} {left} {right} c =
+        record { long = omega (arith, c.long); decides = c.decides ∙ and-cond b (eq x y) (same_by eq left right) }
+
+    pub compared-all : (b : Bool) (left right : List A) → (left ≡ []) ⊎ (right ≡ []) → Compared xs ys b left right → b ≡ same_by eq xs ys
+    unfolding same_by
+    compared-all b [] [] e c = sym (c.decides ∙ and-true b)
+    compared-all b [] (y ∷ right) e c = absurd (omega (arith, c.long))
+    compared-all b (x ∷ left) [] e c = absurd (omega (arith, c.long))
+    compared-all b (x ∷ left) (y ∷ right) (inl e) c = absurd (omega (arith, ap length e))
+    compared-all b (x ∷ left) (y ∷ right) (inr e) c = absurd (omega (arith, ap length e))

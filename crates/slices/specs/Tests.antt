@@ -17,9 +17,13 @@ all_below m xs = every (λ x. ltb x m) xs
 abbrev pub all_zero : List ℕ → Bool
 all_zero xs = every (λ x. eqb x 0) xs
 
+-- the same elements by a test of two, and as many
+unfoldable pub same_by : {A : Type 0} → (A → A → Bool) → List A → List A → Bool
+same_by eq [] [] = true
+same_by eq [] (y ∷ ys) = false
+same_by eq (x ∷ xs) [] = false
+same_by eq (x ∷ xs) (y ∷ ys) = cond (eq x y) (same_by eq xs ys) false
+
 -- the same numbers, and as many
-unfoldable pub same : List ℕ → List ℕ → Bool
-same [] [] = true
-same [] (y ∷ ys) = false
-same (x ∷ xs) [] = false
-same (x ∷ xs) (y ∷ ys) = cond (eqb x y) (same xs ys) false
+abbrev pub same : List ℕ → List ℕ → Bool
+same xs ys = same_by eqb xs ys

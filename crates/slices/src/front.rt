@@ -1,29 +1,20 @@
 // Writing at the front of an output, as much as there is room for; the rest of it is kept.
 ghost use Rattle.std.specs.Prelude.{◌≡◌};
 ghost use Rattle.slices.specs.AtFront.{at_front};
+ghost use Rattle.slices.specs.Padded.{padded};
 
-pub fn put_front(out: &mut [u8], bytes: &[u8])
-    ensures { out.new ≡ at_front bytes.now out.old }
+pub fn put_front<T: Copy>(out: &mut [T], items: &[T])
+    ensures { out.new ≡ at_front items.now out.old }
 {
-    let mut i = 0;
-    while i < out.len() {
-        if bytes.len() <= i {
-            return;
-        }
-        out[i] = bytes[i];
-        i += 1;
-    }
+    let n = out.len().min(items.len());
+    out[..n].copy_from_slice(&items[..n]);
 }
 
-pub fn put_words_front(out: &mut [u64], words: &[u64])
-    ensures { out.new ≡ at_front words.now out.old }
+// The bytes with zeros behind them, N in all; of more bytes, the first.
+pub fn padded<const N: usize>(bytes: &[u8]) -> [u8; N]
+    ensures { result ≡ padded N bytes.now }
 {
-    let mut i = 0;
-    while i < out.len() {
-        if words.len() <= i {
-            return;
-        }
-        out[i] = words[i];
-        i += 1;
-    }
+    let mut room = [0u8; N];
+    put_front(&mut room, bytes);
+    room
 }

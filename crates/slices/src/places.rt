@@ -5,7 +5,7 @@ ghost use Rattle.slices.specs.Parts;
 pub fn least(a: usize, b: usize) -> usize
     ensures { result ≡ min a b }
 {
-    if a < b { a } else { b }
+    a.min(b)
 }
 
 // So many bytes from a place on, as far as the bytes go. They are those of the slice itself, where they lie; of no bytes, its beginning.

@@ -1,39 +1,20 @@
-// Slices that are all zero: whether they are, and made so.
+// Slices that are all zero: whether they are, as of any other element, and made so.
 ghost use Rattle.std.specs.Prelude.{◌≡◌, length, replicate};
-ghost use Rattle.slices.specs.Tests.{all_zero};
+ghost use Rattle.slices.specs.Tests.{every};
 
-// Every byte is looked at: a loop with one way out is compiled to wide instructions.
-pub fn bytes_zero(bytes: &[u8]) -> bool
-    ensures { result ≡ all_zero bytes.now }
+// All the items are this one. Every item is looked at: a loop with one way out is compiled to wide instructions.
+pub fn all_are<T: PartialEq + Copy>(items: &[T], x: T) -> bool
+    ensures { result ≡ every (λ y. T.eq y x) items.now }
 {
-    let mut zero = true;
-    let mut i = 0;
-    while i < bytes.len() {
-        zero = zero & (bytes[i] == 0);
-        i += 1;
+    let mut all = true;
+    for y in items {
+        all = all & (*y == x);
     }
-    zero
-}
-
-pub fn words_zero(words: &[u64]) -> bool
-    ensures { result ≡ all_zero words.now }
-{
-    let mut i = 0;
-    while i < words.len() {
-        if words[i] != 0 {
-            return false;
-        }
-        i += 1;
-    }
-    true
+    all
 }
 
 pub fn clear(words: &mut [u64])
     ensures { words.new ≡ replicate (length words.old) 0 }
 {
-    let mut i = 0;
-    while i < words.len() {
-        words[i] = 0;
-        i += 1;
-    }
+    words.fill(0);
 }

@@ -89,7 +89,7 @@ abbrev pub built : ℕ → List Node → List ℕ → Stream
 built n roots bytes = state_of (n + length bytes / chunk_bytes) (grown n roots (finished bytes)) (rest chunk_bytes bytes)
 
 -- fewer bytes than a chunk has finish none
-finished-none : (bytes : List ℕ) → length bytes < chunk_bytes → finished bytes ≡ []
+pub finished-none : (bytes : List ℕ) → length bytes < chunk_bytes → finished bytes ≡ []
 unfolding finished pieces
 finished-none bytes short =
     let none : length bytes / chunk_bytes ≡ 0 = omega arith in

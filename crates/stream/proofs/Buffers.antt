@@ -1,12 +1,10 @@
--- Roots in a padded buffer: read back, `held-padded`, and the one form of those that a buffer holds, `held-form`. Bytes that fill what they
--- are written in: `filled-front`.
+-- Roots in a padded buffer: read back, `held-padded`, and the one form of those that a buffer holds, `held-form`.
 use Prim.Native.Nat.{ℕ, ◌-◌, ◌*◌, ◌≤◌}
 use mathlib.Core.Bool.{true}
-use mathlib.Core.List.{List, ◌++◌, append-nil, flatten}
+use mathlib.Core.List.{List, flatten}
 use mathlib.Core.Path.{◌≡◌, sym, ap, ap₂, ◌∙◌}
 use native.Mathlib.Omega.{arith}
-use lib.ListN.{length, take, drop, replicate, drop_of_length-le}
-use Rattle.slices.specs.AtFront.{at_front}
+use lib.ListN.{length, drop, replicate}
 use Rattle.slices.specs.Padded.{padded}
 use Rattle.slices.specs.Tests.{all_zero}
 use Rattle.slices.proofs.Padded.{padded-room, zeros-padded}
@@ -14,12 +12,6 @@ use Rattle.treerule.specs.Root.{node_bytes, Node}
 use Rattle.treerule.proofs.Levels.{Whole}
 use Rattle.tree.specs.Code.Held.{held}
 use Rattle.tree.proofs.Held.{flat-held, held-flat, length-flat}
-
-pub filled-front : (bytes room : List ℕ) → length room ≤ length bytes → at_front bytes room ≡ take (length room) bytes
-unfolding at_front
-filled-front bytes room long =
-    ap (λ (l : List ℕ). take (length room) bytes ++ l) (drop_of_length-le room {i = length bytes} long)
-    ∙ append-nil (take (length room) bytes)
 
 pub held-padded : (room k : ℕ) (ns : List Node) → length ns ≡ k → k * node_bytes ≤ room → Whole ns → held k (padded room (flatten ns)) ≡ ns
 held-padded room k ns e h whole =

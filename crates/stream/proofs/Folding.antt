@@ -1,63 +1,52 @@
--- Roots folded from the last to the first: the loop's invariant and its turns.
-use Prim.Native.Nat.{ℕ, suc, ◌+◌, ◌-◌, ◌*◌, ◌<◌, ◌≤◌}
+-- Roots in a buffer, as a slice of nodes: `nodes-front`, `nodes-between`. Roots folded from the last to the first, the loop's turn
+-- and its end: `folded-more`, `folded-end`.
+use Prim.Native.Nat.{ℕ, zero, suc, ◌-◌, ◌*◌, ◌/◌, ◌≤◌}
 use mathlib.Core.List.{List, [], ◌∷◌, ◌++◌, append_assoc}
 use mathlib.Core.Path.{◌≡◌, refl, sym, ap, ◌∙◌}
 use native.Mathlib.Omega.{arith}
-use lib.ListN.{take, drop}
-use lib.Seq.{drop-drop}
-use Rattle.slices.proofs.Parts.{part_to, part-all}
+use lib.ListN.{length, take, drop}
+use Rattle.std.specs.Simd.{first_chunks}
 use Rattle.fips.specs.Bits.{pieces}
 use Rattle.treerule.specs.Root.{node_bytes, Node, parent}
-use Rattle.treerule.proofs.Pieces.{pieces-snoc}
+use Rattle.treerule.proofs.Pieces.{pieces-take, pieces-drop}
 use Rattle.streamrule.specs.Held.{folded}
 use Rattle.streamrule.proofs.Folds.{folded-last}
-use Rattle.tree.specs.Code.Held.{held, node_at}
+use Rattle.tree.specs.Code.Held.{held}
+
+chunks-pieces : (n k : ℕ) (xs : List ℕ) → first_chunks n k xs ≡ pieces n k xs
+unfolding pieces
+chunks-pieces n zero xs = refl
+chunks-pieces n (suc k) xs = ap (λ (l : List (List ℕ)). take n xs ∷ l) (chunks-pieces n k (drop n xs))
+
+module _ (buffer : List ℕ) {nodes : List Node} (is_nodes : nodes ≡ first_chunks node_bytes (length buffer / node_bytes) buffer) where
+  abbrev all : ℕ
+  all = length buffer / node_bytes
+
+  pub nodes-front : (count : ℕ) → count ≤ all → take count nodes ≡ held count buffer
+  nodes-front count h = ap (take count) (is_nodes ∙ chunks-pieces node_bytes all buffer) ∙ pieces-take node_bytes count all buffer h
+
+  pub nodes-between : (from to : ℕ) → from ≤ to → to ≤ all →
+      take (to - from) (drop from nodes) ≡ held (to - from) (drop (from * node_bytes) buffer)
+  nodes-between from to h room =
+      ap (λ (l : List Node). take (to - from) (drop from l)) (is_nodes ∙ chunks-pieces node_bytes all buffer)
+      ∙ ap (take (to - from)) (pieces-drop node_bytes from all buffer (omega arith))
+      ∙ pieces-take node_bytes (to - from) (all - from) (drop (from * node_bytes) buffer) (omega arith)
 
 -- the roots from one place to another, and a node behind them
 abbrev pub above : List ℕ → ℕ → ℕ → Node → Node
 above roots from to node = folded (held (to - from) (drop (from * node_bytes) roots) ++ (node ∷ []))
 
--- those up to i are left
-pub record Folded (roots : List ℕ) (from to : ℕ) (last node : Node) (i : ℕ) : Type 0 where
-  pub left : from ≤ i
-  pub most : i ≤ to
-  pub is : above roots from to last ≡ above roots from i node
+-- the last of those that are left, and the node behind them, have a parent
+pub folded-more : {left : List Node} (rest : List Node) (root node : Node) {up : Node} {all : Node} → left ≡ rest ++ (root ∷ []) →
+    folded (left ++ (node ∷ [])) ≡ all → up ≡ parent root node → folded (rest ++ (up ∷ [])) ≡ all
+folded-more rest root node is_left same is_up =
+    ap (λ (n : Node). folded (rest ++ (n ∷ []))) is_up
+    ∙ sym (folded-last rest root node)
+    ∙ ap folded (sym (append_assoc rest (root ∷ []) (node ∷ [])))
+    ∙ ap (λ (l : List Node). folded (l ++ (node ∷ []))) (sym is_left)
+    ∙ same
 
-pub folded_start : (roots : List ℕ) (from to : ℕ) (last : Node) → from ≤ to → Folded roots from to last last to
-folded_start roots from to last h = record { left = h; most = omega arith; is = refl }
-
-one_less : (roots : List ℕ) (from i : ℕ) (node : Node) → from ≤ i →
-    above roots from (suc i) node ≡ above roots from i (parent (node_at i roots) node)
-one_less roots from i node h =
-    let k = i - from in
-    let next : suc i - from ≡ suc k = omega arith in
-    let place : from * node_bytes + k * node_bytes ≡ i * node_bytes = omega arith in
-    let there : take node_bytes (drop (k * node_bytes) (drop (from * node_bytes) roots)) ≡ node_at i roots =
-    ap (take node_bytes) (drop-drop (k * node_bytes) (from * node_bytes) roots ∙ ap (λ (m : ℕ). drop m roots) place) in
-    ap (λ (m : ℕ). folded (held m (drop (from * node_bytes) roots) ++ (node ∷ []))) next
-    ∙ ap (λ (l : List Node). folded (l ++ (node ∷ []))) (pieces-snoc node_bytes k (drop (from * node_bytes) roots))
-    ∙ ap folded (append_assoc (held k (drop (from * node_bytes) roots)) _ (node ∷ []))
-    ∙ folded-last (held k (drop (from * node_bytes) roots)) _ node
-    ∙ ap (λ (l : Node). folded (held k (drop (from * node_bytes) roots) ++ (parent l node ∷ []))) there
-
-pub folded_more : (roots : List ℕ) (from to : ℕ) (last node : Node) (i : ℕ) {left up : Node} → from < i → Folded roots from to last node i →
-    left ≡ take node_bytes (part_to ((i - 1) * node_bytes) roots) → up ≡ parent left node → Folded roots from to last up (i - 1)
-folded_more roots from to last node i {left} {up} h f is_left is_up =
-    let there : left ≡ node_at (i - 1) roots = is_left ∙ ap (take node_bytes) (part-all ((i - 1) * node_bytes) roots) in
-    let next : i ≡ suc (i - 1) = omega arith in
-    record {
-      left = omega arith;
-      most = omega (arith, f.most);
-      is =
-          f.is
-          ∙ ap (λ (m : ℕ). above roots from m node) next
-          ∙ one_less roots from (i - 1) node (omega arith)
-          ∙ ap (above roots from (i - 1)) (sym (is_up ∙ ap (λ (l : Node). parent l node) there));
-    }
-
-pub folded-end : (roots : List ℕ) (from to : ℕ) (last node : Node) (i : ℕ) → i ≤ from → Folded roots from to last node i →
-    node ≡ above roots from to last
-unfolding pieces folded
-folded-end roots from to last node i h f =
-    let none : i - from ≡ 0 = omega arith in
-    sym (f.is ∙ ap (λ (m : ℕ). folded (held m (drop (from * node_bytes) roots) ++ (node ∷ []))) none)
+pub folded-end : (left : List Node) (node : Node) {all : Node} → length left ≡ 0 → folded (left ++ (node ∷ [])) ≡ all → node ≡ all
+unfolding folded
+folded-end [] node none same = same
+folded-end (l ∷ left) node none same = absurd (omega arith)

@@ -1,27 +1,25 @@
 -- A leaf more, and leaves more, in the buffer of roots: `push-law`; `Grown` is the loop's invariant, with its turns.
 use Prim.Native.Nat.{ℕ, suc, ◌+◌, ◌-◌, ◌*◌, ◌/◌, ◌<◌, ◌≤◌}
-use mathlib.Core.List.{List, [], ◌∷◌, ◌++◌, append-nil, map, map-append}
-use mathlib.Core.Path.{◌≡◌, refl, sym, ap, ap₂, ◌∙◌}
-use native.Mathlib.Nat.{add-zero}
-use native.Mathlib.Numerals.{add-one}
+use mathlib.Core.List.{List, [], ◌∷◌, ◌++◌, append-nil, map}
+use mathlib.Core.Path.{◌≡◌, refl, sym, ap, ap₂, subst, ◌∙◌}
 use native.Mathlib.Omega.{arith}
 use lib.Count.{ones}
-use lib.ListN.{length, take, drop, length-drop, length-map, drop_of_length-le}
+use lib.ListN.{length, take, drop, length-append, length-drop, drop_of_length-le}
 use Rattle.slices.specs.AtFront.{at_front}
 use Rattle.slices.specs.Parts.{put_part}
 use Rattle.slices.proofs.AtFront.{at_front-room}
 use Rattle.slices.proofs.Parts.{part_to, part-all}
 use Rattle.fips.specs.Bits.{pieces}
 use Rattle.treerule.specs.Root.{chunk_bytes, node_bytes, Node, leaf}
-use Rattle.treerule.proofs.Pieces.{length-pieces, pieces-snoc, pieces-take, pieces-drop}
+use Rattle.treerule.proofs.Pieces.{length-pieces, pieces-take, pieces-drop}
 use Rattle.tree.specs.Code.Held.{held}
 use Rattle.tree.proofs.Held.{held-put}
 use Rattle.streamrule.specs.Held.{folded, ones_at_end, joined, pushed, grown}
 use Rattle.streamrule.proofs.Ones.{ends-le, ones-next}
-use Rattle.streamrule.proofs.Subtrees.{grown-append}
 use Rattle.stream.specs.State.{most_chunks, root_room, roots_in}
 use Rattle.stream.specs.Steps.{finished}
 use Rattle.stream.proofs.Limits.{few-roots}
+use Rattle.stream.proofs.Adding.{finished-append, finished-none}
 use Rattle.stream.proofs.Folding.{above}
 
 -- bytes written from a place on, as the part comes back
@@ -77,54 +75,63 @@ push-law buffer n to k leaf {node} p room is_to is_k long is_node is_y =
 
 -- ---- leaves more
 
--- i chunks are taken
-pub record Grown (bytes : List ℕ) (chunks : ℕ) (buffer₀ buffer : List ℕ) (i : ℕ) : Type 0 where
-  pub within : i ≤ length bytes / chunk_bytes
+-- i chunks are taken, and these bytes are left
+pub record Grown (bytes : List ℕ) (chunks : ℕ) (buffer₀ buffer left : List ℕ) (i : ℕ) : Type 0 where
+  pub count : i + length left / chunk_bytes ≡ length bytes / chunk_bytes
   pub long : length buffer ≡ length buffer₀
-  pub is : roots_in (chunks + i) buffer ≡ grown chunks (roots_in chunks buffer₀) (map leaf (pieces chunk_bytes i bytes))
+  pub is : grown (chunks + i) (roots_in (chunks + i) buffer) (finished left) ≡ grown chunks (roots_in chunks buffer₀) (finished bytes)
 
-pub grown-start : (bytes : List ℕ) (chunks : ℕ) (buffer : List ℕ) → Grown bytes chunks buffer buffer 0
-unfolding grown pieces
-grown-start bytes chunks buffer =
-    record { within = omega arith; long = refl; is = ap (λ (n : ℕ). roots_in n buffer) (add-zero chunks) }
-
--- one leaf more, at the end
-grown-snoc : (n i : ℕ) (roots : List Node) (bytes : List ℕ) →
-    grown n roots (map leaf (pieces chunk_bytes (suc i) bytes))
-    ≡ pushed (n + i) (grown n roots (map leaf (pieces chunk_bytes i bytes))) (leaf (take chunk_bytes (drop (i * chunk_bytes) bytes)))
-unfolding grown
-grown-snoc n i roots bytes =
-    let front = pieces chunk_bytes i bytes in
-    let last = take chunk_bytes (drop (i * chunk_bytes) bytes) in
-    let many : length (map leaf front) ≡ i = length-map front leaf ∙ length-pieces chunk_bytes i bytes in
-    ap (λ (l : List (List ℕ)). grown n roots (map leaf l)) (pieces-snoc chunk_bytes i bytes)
-    ∙ ap (grown n roots) (map-append leaf front (last ∷ []))
-    ∙ grown-append n roots (map leaf front) (leaf last ∷ [])
-    ∙ ap (λ (m : ℕ). pushed (n + m) (grown n roots (map leaf front)) (leaf last)) many
-
-pub grown-more : (bytes : List ℕ) (chunks : ℕ) (buffer₀ buffer : List ℕ) (i : ℕ) {node next : List ℕ} → i < length bytes / chunk_bytes →
-    Grown bytes chunks buffer₀ buffer i → node ≡ leaf (take chunk_bytes (part_to (i * chunk_bytes) bytes)) →
-    roots_in (suc (chunks + i)) next ≡ pushed (chunks + i) (roots_in (chunks + i) buffer) node → length next ≡ length buffer →
-    Grown bytes chunks buffer₀ next (i + 1)
-grown-more bytes chunks buffer₀ buffer i {node} {next} h g is_node is_next long =
+pub grown-start : (bytes : List ℕ) (chunks : ℕ) (buffer left : List ℕ) (i : ℕ) → left ≡ bytes → i ≡ 0 →
+    Grown bytes chunks buffer buffer left i
+grown-start bytes chunks buffer left i is_left none =
+    let from : chunks + i ≡ chunks = omega arith in
     record {
-      within = omega arith;
-      long = long ∙ g.long;
-      is =
-          ap (λ (n : ℕ). roots_in n next) (omega arith)
-          ∙ is_next
-          ∙ ap₂ (λ (l : List Node) (m : Node). pushed (chunks + i) l m) g.is
-          (is_node ∙ ap (λ (l : List ℕ). leaf (take chunk_bytes l)) (part-all (i * chunk_bytes) bytes))
-          ∙ sym (grown-snoc chunks i (roots_in chunks buffer₀) bytes)
-          ∙ ap (λ (n : ℕ). grown chunks (roots_in chunks buffer₀) (map leaf (pieces chunk_bytes n bytes))) (sym (add-one i));
+      count = omega (arith, ap length is_left);
+      long = refl;
+      is = ap₂ (λ (n : ℕ) (l : List ℕ). grown n (roots_in n buffer) (finished l)) from is_left;
     }
 
-pub grown-end : (bytes : List ℕ) (chunks : ℕ) (buffer₀ buffer : List ℕ) (i : ℕ) → length bytes / chunk_bytes ≤ i →
-    Grown bytes chunks buffer₀ buffer i →
+finished-one : (chunk : List ℕ) → length chunk ≡ chunk_bytes → finished chunk ≡ leaf (take chunk_bytes chunk) ∷ []
+unfolding finished pieces
+finished-one chunk whole =
+    let one : length chunk / chunk_bytes ≡ 1 = omega arith in
+    ap (λ (n : ℕ). map leaf (pieces chunk_bytes n chunk)) one
+
+-- one chunk more
+module _ {bytes : List ℕ} {chunks : ℕ} {buffer₀ buffer left : List ℕ} {i : ℕ} (g : Grown bytes chunks buffer₀ buffer left i)
+    (chunk rest : List ℕ) (is_left : left ≡ chunk ++ rest) (whole : length chunk ≡ chunk_bytes) where
+  pub grown-room : i < length bytes / chunk_bytes
+  grown-room = omega (arith, g.count, ap length is_left, length-append chunk rest)
+
+  pub grown-more : (k j : ℕ) {node next : List ℕ} → k ≡ i → j ≡ i + 1 → node ≡ leaf (take chunk_bytes chunk) →
+      roots_in (suc (chunks + k)) next ≡ pushed (chunks + k) (roots_in (chunks + k) buffer) node → length next ≡ length buffer →
+      Grown bytes chunks buffer₀ next rest j
+  unfolding grown
+  grown-more k j {node} {next} is_k is_j is_node is_next long =
+      let n = chunks + i in
+      let on : chunks + j ≡ suc n = omega arith in
+      let pushes : roots_in (suc n) next ≡ pushed n (roots_in n buffer) node =
+      subst (λ (m : ℕ). roots_in (suc (chunks + m)) next ≡ pushed (chunks + m) (roots_in (chunks + m) buffer) node) is_k is_next in
+      let leaves : finished left ≡ node ∷ finished rest =
+      ap finished is_left
+      ∙ finished-append chunk rest (omega arith)
+      ∙ ap (λ (l : List Node). l ++ finished rest) (finished-one chunk whole ∙ ap (λ (m : Node). m ∷ []) (sym is_node)) in
+      record {
+        count = omega (arith, g.count, ap length is_left, length-append chunk rest);
+        long = long ∙ g.long;
+        is =
+            ap (λ (m : ℕ). grown m (roots_in m next) (finished rest)) on
+            ∙ ap (λ (r : List Node). grown (suc n) r (finished rest)) pushes
+            ∙ ap (grown n (roots_in n buffer)) (sym leaves)
+            ∙ g.is;
+      }
+
+pub grown-end : {bytes : List ℕ} {chunks : ℕ} {buffer₀ buffer left : List ℕ} {i : ℕ} → Grown bytes chunks buffer₀ buffer left i →
+    length left < chunk_bytes →
     roots_in (chunks + length bytes / chunk_bytes) buffer ≡ grown chunks (roots_in chunks buffer₀) (finished bytes)
-unfolding finished
-grown-end bytes chunks buffer₀ buffer i h g =
-    let all : length bytes / chunk_bytes ≡ i = omega (arith, g.within) in
+unfolding grown
+grown-end {bytes} {chunks} {buffer₀} {buffer} {left} {i} g few =
+    let all : length bytes / chunk_bytes ≡ i = omega (arith, g.count) in
     ap (λ (n : ℕ). roots_in (chunks + n) buffer) all
+    ∙ sym (ap (grown (chunks + i) (roots_in (chunks + i) buffer)) (finished-none left few))
     ∙ g.is
-    ∙ ap (λ (n : ℕ). grown chunks (roots_in chunks buffer₀) (map leaf (pieces chunk_bytes n bytes))) (sym all)

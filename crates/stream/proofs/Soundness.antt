@@ -102,6 +102,10 @@ module _ (s : Stream) where
       first_three at (suc (suc zero)) = at 2
       first_three at (suc (suc (suc i))) = refl
 
+  -- named to the check in `root_of`, where the bytes of the begun chunk are lent
+  pub further_within : sound s ≡ true → s.further ≤ chunk_bytes
+  further_within ok = omega (arith, (sound-has ok).counts.short)
+
   pub length-further : Shaped s → sound s ≡ true → length (bytes_of s) ≡ s.further
   length-further shape ok = length-take-le s.further s.bytes (omega (arith, shape.bytes, (sound-has ok).counts.short))
 

@@ -1,9 +1,8 @@
 // Adding a piece: SPEC, "Tree over a stream". The chunks of a piece are taken where they lie.
 ghost use Rattle.std.specs.Prelude.{true, ◌≡◌, ◌++◌, ◌+◌, ◌*◌, ◌/◌, ◌≤◌, ltb, length};
-ghost use Rattle.answers.specs.Judged.{Judged};
+ghost use Rattle.answers.specs.Judged.{handed, Judged};
 ghost use Rattle.answers.specs.Numbers.{number_of};
 ghost use Rattle.slices.specs.Blocks.{rest as rest_of};
-ghost use Rattle.slices.specs.Padded.{padded as padded_to};
 ghost use Rattle.treerule.specs.Root.{chunk_bytes};
 ghost use Rattle.streamrule.specs.Held.{grown};
 ghost use Rattle.stream.specs.State.{most_chunks, state_of, sound, Shaped, roots_in};
@@ -12,15 +11,9 @@ ghost use Rattle.stream.specs.Steps.{finished, stream_limit, taken, add_tests, a
 use crate::roots::{grow, held};
 use crate::state::{MOST, is_sound};
 use crate::{CHUNK, NODE, ROOTS, Stream};
-use answers::Answer;
-use slices::front::put_front;
+use answers::Refusal;
+use slices::front::{padded, put_front};
 use slices::places::rest_at;
-
-#[derive(Clone, Copy)]
-pub struct Added {
-    pub answer: Answer,
-    pub stream: Stream,
-}
 
 // 2^42 bytes.
 const LIMIT: u64 = MOST * 1024;
@@ -32,15 +25,6 @@ fn too_long(stream: Stream, n: usize) -> bool
 {
     let room = LIMIT - (stream.chunks * 1024 + stream.further);
     room < n as u64
-}
-
-// Bytes with zeros behind them, 1,024 in all: so many has a chunk, and so many have all roots.
-fn padded(bytes: &[u8]) -> [u8; CHUNK]
-    ensures { result ≡ padded_to chunk_bytes bytes.now }
-{
-    let mut room = [0u8; CHUNK];
-    put_front(&mut room, bytes);
-    room
 }
 
 // The stream once two runs of bytes have followed the finished chunks. The first is whole chunks: `with_piece` lends the one that was
@@ -91,25 +75,15 @@ fn with_piece(stream: Stream, piece: &[u8]) -> Stream
     taken_up(chunks, roots, &bytes[..end], &piece[lead..])
 }
 
-pub fn add(stream: Stream, piece: &[u8]) -> Added
-    ensures judged { Judged (add_tests stream piece.now) stream (added stream piece.now) (number_of result.answer) result.stream }
+pub fn add(stream: Stream, piece: &[u8]) -> Result<Stream, Refusal>
+    ensures judged { Judged (add_tests stream piece.now) stream (added stream piece.now) (number_of result) (handed stream result) }
     ensures shaped { Shaped stream }
 {
     if !is_sound(stream) {
-        return Added {
-            answer: Answer::NotSound,
-            stream,
-        };
+        return Err(Refusal::NotSound);
     }
     if too_long(stream, piece.len()) {
-        return Added {
-            answer: Answer::TooLong,
-            stream,
-        };
+        return Err(Refusal::TooLong);
     }
-    let next = with_piece(stream, piece);
-    Added {
-        answer: Answer::Done,
-        stream: next,
-    }
+    Ok(with_piece(stream, piece))
 }

@@ -7,9 +7,9 @@ pub mod add; // add.rt: a piece more
 pub mod root; // root.rt: the root of all that was taken
 
 // The bytes of a node and of a chunk, and of all roots: of 2^32 chunks or fewer there are at most 32.
-pub const NODE: usize = 32;
+pub const NODE: usize = tree::node::NODE;
 
-pub const CHUNK: usize = 1024;
+pub const CHUNK: usize = tree::node::CHUNK;
 
 pub const ROOTS: usize = 32 * NODE;
 

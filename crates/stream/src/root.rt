@@ -6,32 +6,29 @@ ghost use Rattle.slices.specs.AtFront.{at_front};
 ghost use Rattle.stream.specs.State.{sound, Shaped};
 ghost use Rattle.stream.specs.Steps.{root_tests, stream_root};
 
-use crate::roots::{fold, front_node, held};
+use crate::roots::{fold, held};
 use crate::state::is_sound;
 use crate::{NODE, Stream};
-use answers::Answer;
+use answers::{Answer, Refusal};
 use slices::front::put_front;
 use tree::node::{leaf, nothing};
 
 // The bytes after the finished chunks are a last chunk, where there are any; where there are none, the last root is the last node.
+#[tactic(auto, using(crate::proofs::Soundness::further_within))]
 fn root_of(stream: Stream) -> [u8; NODE]
     requires { sound stream ≡ true }
     ensures { result ≡ stream_root stream }
 {
-    let roots = stream.roots;
-    let bytes = stream.bytes;
-    let count = held(stream.chunks);
+    let (nodes, _) = stream.roots.as_chunks::<NODE>();
+    let roots = &nodes[..held(stream.chunks)];
     let end = stream.further as usize;
     if 0 < end {
-        return fold(&roots, 0, count, leaf(&bytes[..end]));
+        return fold(roots, leaf(&stream.bytes[..end]));
     }
-    if count < 1 {
-        return nothing();
+    match roots.split_last() {
+        Some((last, before)) => fold(before, *last),
+        None => nothing(),
     }
-    let before = count - 1;
-    let at = before * NODE;
-    let last = front_node(&roots[at..]);
-    fold(&roots, 0, before, last)
 }
 
 // The root at the front of the output. The stream may go on.
@@ -41,12 +38,12 @@ pub fn root(stream: Stream, out: &mut [u8]) -> Answer
     ensures shaped { Shaped stream }
 {
     if !is_sound(stream) {
-        return Answer::NotSound;
+        return Err(Refusal::NotSound);
     }
     if out.len() < NODE {
-        return Answer::ShortOutput;
+        return Err(Refusal::ShortOutput);
     }
     let node = root_of(stream);
     put_front(out, &node);
-    Answer::Done
+    Ok(())
 }

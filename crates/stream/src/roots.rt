@@ -1,8 +1,7 @@
 // The roots that a stream holds, back to back in a buffer, and what chunks more make of them.
-ghost use Rattle.std.specs.Prelude.{◌≡◌, [], ◌∷◌, ◌++◌, suc, ◌+◌, ◌-◌, ◌*◌, ◌/◌, ◌<◌, ◌≤◌, length, take, drop};
+ghost use Rattle.std.specs.Prelude.{◌≡◌, [], ◌∷◌, ◌++◌, suc, ◌+◌, ◌/◌, ◌<◌, ◌≤◌, length};
 ghost use Rattle.std.specs.Int.Count.{ones};
-ghost use Rattle.tree.specs.Code.Held.{held as nodes};
-ghost use Rattle.treerule.specs.Root.{chunk_bytes, node_bytes};
+ghost use Rattle.treerule.specs.Root.{chunk_bytes};
 ghost use Rattle.streamrule.specs.Held.{folded, ones_at_end, pushed, grown};
 ghost use Rattle.stream.specs.State.{most_chunks, root_room, roots_in};
 ghost use Rattle.stream.specs.Steps.{finished};
@@ -26,27 +25,13 @@ fn joins(chunks: u64) -> usize
     u64::trailing_zeros(chunks + 1) as usize
 }
 
-// The node that the bytes begin with.
-pub(crate) fn front_node(bytes: &[u8]) -> [u8; NODE]
-    requires { node_bytes ≤ length bytes.now }
-    ensures { result ≡ take node_bytes bytes.now }
-{
-    let mut node = [0u8; NODE];
-    put_front(&mut node, bytes);
-    node
-}
-
-// The node above the roots from one place to another and a node behind them: the last two have a parent, and so on to the first.
-pub(crate) fn fold(roots: &[u8], from: usize, to: usize, last: [u8; NODE]) -> [u8; NODE]
-    requires { (from ≤ to) × (to * node_bytes ≤ length roots.now) }
-    ensures { result ≡ folded (nodes (to - from) (drop (from * node_bytes) roots.now) ++ (last ∷ [])) }
+// The node above the roots and a node behind them: the last two have a parent, and so on to the first.
+pub(crate) fn fold(roots: &[[u8; NODE]], last: [u8; NODE]) -> [u8; NODE]
+    ensures { result ≡ folded (roots.now ++ (last ∷ [])) }
 {
     let mut node = last;
-    let mut i = to;
-    while from < i {
-        i -= 1;
-        let at = i * NODE;
-        let above = parent(front_node(&roots[at..]), node);
+    for root in roots.iter().rev() {
+        let above = parent(*root, node);
         node = above;
     }
     node
@@ -59,7 +44,8 @@ fn push(roots: &mut [u8], chunks: u64, leaf: [u8; NODE])
 {
     let to = held(chunks);
     let from = to - joins(chunks);
-    let node = fold(roots, from, to, leaf);
+    let (nodes, _) = roots.as_chunks::<NODE>();
+    let node = fold(&nodes[from..to], leaf);
     let at = from * NODE;
     put_front(&mut roots[at..], &node);
 }
@@ -70,12 +56,7 @@ pub(crate) fn grow(roots: &mut [u8], chunks: u64, bytes: &[u8])
     ensures { roots_in (chunks + length bytes.now / chunk_bytes) roots.new
         ≡ grown chunks (roots_in chunks roots.old) (finished bytes.now) }
 {
-    let count = bytes.len() / CHUNK;
-    let mut i = 0;
-    while i < count {
-        let at = i * CHUNK;
-        let node = leaf(&bytes[at..]);
-        push(roots, chunks + i as u64, node);
-        i += 1;
+    for (i, chunk) in bytes.chunks_exact(CHUNK).enumerate() {
+        push(roots, chunks + i as u64, leaf(chunk));
     }
 }

@@ -5,7 +5,7 @@ ghost use Rattle.stream.specs.State.{begun, count_rules, sound};
 
 use crate::roots::held;
 use crate::{CHUNK, NODE, ROOTS, Stream};
-use slices::zero::bytes_zero;
+use slices::zero::all_are;
 
 // House: at most 2^32 chunks.
 pub(crate) const MOST: u64 = 4_294_967_296;
@@ -49,10 +49,10 @@ pub fn is_sound(stream: Stream) -> bool
     }
     let roots = stream.roots;
     let end = held(chunks) * NODE;
-    if !bytes_zero(&roots[end..]) {
+    if !all_are(&roots[end..], 0) {
         return false;
     }
     let bytes = stream.bytes;
     let end = further as usize;
-    bytes_zero(&bytes[end..])
+    all_are(&bytes[end..], 0)
 }

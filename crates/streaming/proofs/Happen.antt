@@ -7,7 +7,7 @@ use native.Mathlib.Omega.{arith}
 use borrow.Author.Tests.{le-ltb}
 use denote.Ref.{Bor, MutBor}
 use lib.ListN.{length, length-append}
-use Rattle.answers.specs.declared.Answer.{Answer}
+use Rattle.std.specs.Prelude.{Ok}
 use Rattle.answers.specs.Judged.{first}
 use Rattle.answers.proofs.Outcome.{done}
 use Rattle.slices.specs.AtFront.{at_front}
@@ -57,7 +57,7 @@ add-happens bytes s piece shape limit t =
     (record {
       κs = ([], tt);
       args = (s, (slice piece, tt));
-      result = record { answer = Answer.Done; stream = added s piece };
+      result = Ok (added s piece);
       last = (tt, (tt, tt));
       learnt = (done (add-passes s piece passes) refl, shape);
     })

@@ -5,16 +5,18 @@
 -- `root-defined`: sound streams stay sound, and have a root whatever their roots are. `stream-kept`, `output-kept`: a refused call changes
 -- nothing.
 use Prim.Native.Nat.{ℕ, zero, suc, ◌+◌, ◌<◌, ◌≤◌}
-use mathlib.Core.Bool.{true, cond}
+use mathlib.Core.Bool.{true, cond, false≢true}
 use mathlib.Core.List.{List, [], ◌++◌}
 use mathlib.Core.Path.{◌≡◌, refl, sym, ap, ap₂, ◌∙◌}
 use native.Mathlib.Omega.{arith}
 use lib.Dec.{ltb}
 use lib.ListN.{length, length-append}
 use Rattle.contracts.specs.Says.{Made, exit}
-use Rattle.answers.specs.declared.Answer.{Answer}
+use Rattle.std.specs.Prelude.{Result, Ok, Err, IsOk, is_ok}
+use Rattle.answers.specs.declared.Refusal.{Refusal}
+use Rattle.answers.specs.Judged.{handed}
 use Rattle.answers.specs.Numbers.{number_of}
-use Rattle.answers.proofs.Outcome.{number-injective}
+use Rattle.answers.proofs.Outcome.{number-injective, refusing-number}
 use Rattle.answers.proofs.Refusals.{zero-first, zero-leaves, done_first, done-leaves, refused-leaves}
 use Rattle.slices.specs.AtFront.{at_front}
 use Rattle.treerule.specs.Root.{node_bytes, Node, root}
@@ -36,36 +38,47 @@ use Rattle.streaming.specs.ByValue.{Streamed, begun-by, added-by, kept_by}
 use Rattle.streaming.proofs.Passing.{AddPasses, add-passed, add-passes, add-answers, root-passes, tree-room}
 use Rattle.streaming.proofs.Passing.{same-passes, passes-both, passes-first, passes-second}
 
+-- a result is done just where its number is 0
+ok-number : {A : Type 0} (r : Result A Refusal) → IsOk r → number_of r ≡ 0
+ok-number (Ok a) h = refl
+ok-number (Err r) h = absurd (false≢true h)
+
+number-ok : {A : Type 0} (r : Result A Refusal) → number_of r ≡ 0 → IsOk r
+number-ok (Ok a) e = refl
+number-ok (Err r) e = absurd (rw e at (refusing-number r))
+
 abbrev Add : Type 0
 Add = Made add.ended add_reads.Learnt
 
--- the stream and the piece of an add, and what it was answered and left
+-- the stream and the piece of an add, and the stream that is left: the one handed out, or the old where the piece is refused
 abbrev before : Add → Stream
 before m = m.args.0
 
 abbrev piece : Add → List ℕ
 piece m = m.args.1.0.now
 
+abbrev left : Add → Stream
+left m = handed (before m) m.result
+
 abbrev Done : Add → Type 0
-Done m = m.result.answer ≡ Answer.Done
+Done m = IsOk m.result
 
 shape : (m : Add) → Shaped (before m)
 shape m = m.learnt.1
 
 passes : (m : Add) → Done m → AddPasses (before m) (piece m)
-passes m d = add-passed (before m) (piece m) (done_first {r = m.result.answer} m.learnt.0 d)
+passes m d = add-passed (before m) (piece m) (zero-first m.learnt.0 (ok-number m.result d))
 
-leaves : (m : Add) → Done m → m.result.stream ≡ added (before m) (piece m)
-leaves m d = done-leaves {r = m.result.answer} m.learnt.0 d
+leaves : (m : Add) → Done m → left m ≡ added (before m) (piece m)
+leaves m d = zero-leaves m.learnt.0 (ok-number m.result d)
 
 done-by : (m : Add) {s : Stream} {p : List ℕ} → before m ≡ s → piece m ≡ p → AddPasses s p → Done m
 done-by m on is h =
-    number-injective m.result.answer Answer.Done
-    (m.learnt.0.answer ∙ add-passes (before m) (piece m) (same-passes on is h))
+    number-ok m.result (m.learnt.0.answer ∙ add-passes (before m) (piece m) (same-passes on is h))
 
 -- ---- a refused call changes nothing
 
-pub stream-kept : (m : Add) → 0 < number_of m.result.answer → m.result.stream ≡ before m
+pub stream-kept : (m : Add) → 0 < number_of m.result → left m ≡ before m
 stream-kept m r = refused-leaves m.learnt.0 r
 
 -- ---- sound streams stay sound
@@ -73,10 +86,10 @@ stream-kept m r = refused-leaves m.learnt.0 r
 pub begin-sound : (m : Made begin.ended begin-reads.Learnt) → sound m.result ≡ true
 begin-sound m = ap sound m.learnt ∙ begun-sound
 
-pub add-sound : (m : Add) → sound (before m) ≡ true → sound m.result.stream ≡ true
-add-sound m ok = go (number_of m.result.answer) refl
+pub add-sound : (m : Add) → sound (before m) ≡ true → sound (left m) ≡ true
+add-sound m ok = go (number_of m.result) refl
   where
-    go : (n : ℕ) → number_of m.result.answer ≡ n → sound m.result.stream ≡ true
+    go : (n : ℕ) → number_of m.result ≡ n → sound (left m) ≡ true
     go zero e =
         let p = add-passed (before m) (piece m) (zero-first m.learnt.0 e) in
         ap sound (zero-leaves m.learnt.0 e) ∙ added-sound (before m) (shape m) ok (piece m) p.within
@@ -85,10 +98,10 @@ add-sound m ok = go (number_of m.result.answer) refl
 -- ---- no bytes
 
 -- done or refused, no bytes change nothing
-pub stream-nothing : (m : Add) → piece m ≡ [] → m.result.stream ≡ before m
-stream-nothing m none = go (number_of m.result.answer) refl
+pub stream-nothing : (m : Add) → piece m ≡ [] → left m ≡ before m
+stream-nothing m none = go (number_of m.result) refl
   where
-    go : (n : ℕ) → number_of m.result.answer ≡ n → m.result.stream ≡ before m
+    go : (n : ℕ) → number_of m.result ≡ n → left m ≡ before m
     go zero e =
         let s = before m in
         zero-leaves m.learnt.0 e
@@ -103,9 +116,9 @@ pub record Appends (a b both : Add) : Type 0 where
   pub joined : Done a → Done b → Done both
   pub first : Done both → Done a
   pub second : Done both → Done b
-  pub same : Done a → Done b → both.result.stream ≡ b.result.stream
+  pub same : Done a → Done b → left both ≡ left b
 
-module _ (a b both : Add) (on_a : before b ≡ a.result.stream) (alike : before both ≡ before a)
+module _ (a b both : Add) (on_a : before b ≡ left a) (alike : before both ≡ before a)
     (joined : piece both ≡ piece a ++ piece b) where
   abbrev s : Stream
   s = before a
@@ -156,14 +169,20 @@ pub record Leads (bytes : List ℕ) (s : Stream) : Type 0 where
   pub within : length bytes ≤ stream_limit
   pub is : s ≡ stream_of bytes
 
-added_of : (bytes : List ℕ) (s : Stream) (m : Add) → Leads bytes s → before m ≡ s → Done m → Leads (bytes ++ piece m) m.result.stream
-added_of bytes s m l on d =
+added_of : (bytes : List ℕ) (s : Stream) (m : Add) {t : Stream} → Leads bytes s → before m ≡ s → m.result ≡ Ok t →
+    Leads (bytes ++ piece m) t
+added_of bytes s m l on e =
+    let d : Done m = ap is_ok e in
     let from : before m ≡ stream_of bytes = on ∙ l.is in
     let p = (passes m d).within in
     let counted : taken (before m) ≡ length bytes = ap taken from ∙ stream-taken bytes l.within in
     record {
       within = omega (arith, length-append bytes (piece m));
-      is = leaves m d ∙ ap (λ (t : Stream). added t (piece m)) from ∙ stream-more bytes l.within (piece m);
+      is =
+          sym (ap (handed (before m)) e)
+          ∙ leaves m d
+          ∙ ap (λ (u : Stream). added u (piece m)) from
+          ∙ stream-more bytes l.within (piece m);
     }
 
 pub leads : {bytes : List ℕ} {s : Stream} → Streamed bytes s → Leads bytes s
@@ -181,7 +200,7 @@ streamed-sound {bytes} t = ap sound (stream-of t) ∙ stream-sound bytes (leads 
 
 -- the next piece is refused for the limit alone, with 7
 pub stream-answers : {bytes : List ℕ} {s : Stream} → Streamed bytes s → (m : Add) → before m ≡ s →
-    number_of m.result.answer ≡ cond (ltb stream_limit (length bytes + length (piece m))) 7 0
+    number_of m.result ≡ cond (ltb stream_limit (length bytes + length (piece m))) 7 0
 stream-answers {bytes} t m on =
     m.learnt.0.answer
     ∙ add-answers (before m) (piece m) (ap sound on ∙ streamed-sound t)
@@ -198,9 +217,9 @@ output-kept m r = refused-leaves m.learnt.0 r
 
 -- of a sound stream: it is answered wherever it finds room, and is as long as a node is
 pub root-defined : (m : Root) → sound m.args.0 ≡ true → node_bytes ≤ length m.args.1.0.now →
-    (m.result ≡ Answer.Done) × (length (stream_root m.args.0) ≡ node_bytes)
+    (m.result ≡ Ok tt) × (length (stream_root m.args.0) ≡ node_bytes)
 root-defined m ok room = (
-  number-injective m.result Answer.Done (m.learnt.0.answer ∙ root-passes m.args.0 m.args.1.0.now ok room),
+  number-injective m.result (Ok tt) (m.learnt.0.answer ∙ root-passes m.args.0 m.args.1.0.now ok room),
   root-length m.args.0 m.learnt.1 ok,
 )
 
@@ -211,13 +230,13 @@ module _ {bytes : List ℕ} {s : Stream} (t : Streamed bytes s) (m : Root) (on :
   is-root : stream_root m.args.0 ≡ root bytes
   is-root = ap stream_root (on ∙ stream-of t) ∙ stream-top bytes (leads t).within
 
-  pub stream-root : m.result ≡ Answer.Done → (exit m).1.0.now ≡ at_front (root bytes) out
+  pub stream-root : m.result ≡ Ok tt → (exit m).1.0.now ≡ at_front (root bytes) out
   stream-root d = done-leaves {r = m.result} m.learnt.0 d ∙ ap (λ (n : Node). at_front n out) is-root
 
   -- a tree of the whole map that is done answers and writes the same
   pub stream-tree : (w : Made tree.ended tree-reads.Learnt) → w.args.0.now ≡ bytes → w.args.1.0.now ≡ out →
-      w.result ≡ Answer.Done →
-      (m.result ≡ Answer.Done) × ((exit m).1.0.now ≡ (exit w).1.0.now)
+      w.result ≡ Ok tt →
+      (m.result ≡ Ok tt) × ((exit m).1.0.now ≡ (exit w).1.0.now)
   unfolding rooted
   stream-tree w same room d =
       let enough = tree-room w.args.0.now w.args.1.0.now (done_first {r = w.result} w.learnt d) in

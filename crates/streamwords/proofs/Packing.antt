@@ -1,11 +1,13 @@
--- A stream and its words: as the code unpacks and packs them (`unpacked`, `packed`), that words which were packed hold that stream again
--- (`packed-holds`), and that the words of the stream which words hold are those words (`holds-packed`).
+-- A stream and its words: as the code unpacks and packs them (`unpacked`, `packed`), that the first words hold what all do (`held-front`),
+-- that words which were packed hold that stream again (`packed-holds`), and that the words of the stream which words hold are those words
+-- (`holds-packed`).
 use Prim.Native.Nat.{ℕ, ◌+◌, ◌*◌, ◌^◌, ◌≤◌}
 use mathlib.Core.List.{List, [], ◌∷◌, ◌++◌, append_assoc, append-nil, map}
 use mathlib.Core.Path.{◌≡◌, refl, sym, ap, ap₂, ◌∙◌}
 use native.Mathlib.Omega.{arith}
 use lib.ListN.{length, take, drop, get_or, set, length-append, length-set, take-append-drop}
-use lib.Seq.{take_at, drop_at, drop-drop}
+use lib.Seq.{take_at, drop_at, take-take, drop-drop}
+use Rattle.std.proofs.lemmas.List.{drop-take, get_or-take}
 use Rattle.slices.specs.AtFront.{at_front}
 use Rattle.slices.specs.Below.{Below, Bytes}
 use Rattle.slices.specs.Parts.{part, put_part}
@@ -40,6 +42,17 @@ unfolding stream_in
 unpacked ws roots_room bytes_room enough long_r long_b is_r is_b =
     same-stream _ _ refl refl (bytes_of roots_from root_words ws roots_room (omega arith) long_r is_r)
     (bytes_of bytes_from byte_words ws bytes_room (omega arith) long_b is_b)
+
+-- the first words hold what all of them do, since each part of a stream lies in them
+part-front : (at k m : ℕ) (ws : List ℕ) → k ≤ m → part (take (at + m) ws) at k ≡ part ws at k
+part-front at k m ws h = ap (take k) (drop-take at m ws) ∙ take-take k m (drop at ws) h
+
+pub held-front : (ws : List ℕ) → stream_in (take stream_words ws) ≡ stream_in ws
+unfolding stream_in
+held-front ws =
+    same-stream _ _ (get_or-take stream_words ws chunks_word 0 (omega arith)) (get_or-take stream_words ws further_word 0 (omega arith))
+    (ap (from_words 8) (part-front roots_from root_words (root_words + byte_words) ws (omega arith)))
+    (ap (from_words 8) (part-front bytes_from byte_words byte_words ws (omega arith)))
 
 -- ---- packed
 

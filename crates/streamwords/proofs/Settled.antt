@@ -3,7 +3,7 @@
 use Prim.Native.Nat.{ℕ}
 use mathlib.Core.List.{List}
 use Rattle.contracts.specs.Says.{Settles}
-use Rattle.answers.specs.declared.Answer.{Answer}
+use Rattle.answers.specs.Numbers.{Answer}
 use Rattle.answers.proofs.Outcome.{answer-both}
 use Rattle.streamwords.specs.contracts.begin as begin
 use Rattle.streamwords.proofs.begin.Reads as begin-reads

@@ -2,13 +2,14 @@
 // the caller's, and are neither read nor written.
 #![tactic(auto)]
 
-ghost use Rattle.std.specs.Prelude.{◌≡◌, ◌≤◌, length};
+ghost use Rattle.std.specs.Prelude.{◌≡◌, ◌≤◌, ◌<◌, MatchResult, length};
+ghost use Rattle.answers.specs.declared.Refusal.{Refusal};
 ghost use Rattle.answers.specs.Numbers.{number_of};
 ghost use Rattle.slices.specs.AtFront.{at_front};
 ghost use Rattle.streamwords.specs.Words.{stream_words, stream_in, words_of};
 ghost use Rattle.streamwords.specs.Calls.{Begins, LendsPiece, Adds, Roots};
 
-use answers::Answer;
+use answers::{Answer, Refusal};
 use stream::{CHUNK, ROOTS, Stream};
 
 // Where they stand: the finished chunks, how many bytes follow them, the roots, and those bytes, eight to a word.
@@ -22,8 +23,7 @@ const BYTES_FROM: usize = ROOTS_FROM + ROOTS / 8;
 
 pub const WORDS: usize = BYTES_FROM + CHUNK / 8;
 
-fn unpack(words: &[u64]) -> Stream
-    requires { stream_words ≤ length words.now }
+fn unpack(words: &[u64; WORDS]) -> Stream
     ensures { result ≡ stream_in words.now }
 {
     let mut roots = [0u8; ROOTS];
@@ -35,6 +35,18 @@ fn unpack(words: &[u64]) -> Stream
         further: words[FURTHER],
         roots,
         bytes,
+    }
+}
+
+// The first of the words, which hold what all of them do. Fewer hold no stream, sound or not. They are lent, since a Stream beside a
+// refusal is copied on the stack once more.
+fn held(words: &[u64]) -> Result<&[u64; WORDS], Refusal>
+    ensures { MatchResult result (λ first. (stream_words ≤ length words.now) × (stream_in first.now ≡ stream_in words.now))
+        (λ e. (length words.now < stream_words) × (e ≡ Refusal.NotSound)) }
+{
+    match words.first_chunk() {
+        Some(first) => Ok(first),
+        None => Err(Refusal::NotSound),
     }
 }
 
@@ -56,33 +68,23 @@ pub fn begin(words: &mut [u64]) -> Answer
     ensures { Begins words.old (number_of result) words.new }
 {
     if words.len() < WORDS {
-        return Answer::ShortOutput;
+        return Err(Refusal::ShortOutput);
     }
     pack(words, stream::state::begin());
-    Answer::Done
+    Ok(())
 }
 
 pub fn add(words: &mut [u64], piece: &[u8]) -> Answer
     ensures adds { Adds words.old piece.now (number_of result) words.new }
     ensures lends_piece { LendsPiece words.old piece.now }
 {
-    if words.len() < WORDS {
-        return Answer::NotSound;
-    }
-    let added = stream::add::add(unpack(words), piece);
-    let answer = added.answer;
-    let Answer::Done = answer else {
-        return answer;
-    };
-    pack(words, added.stream);
-    Answer::Done
+    let stream = stream::add::add(unpack(held(words)?), piece)?;
+    pack(words, stream);
+    Ok(())
 }
 
 pub fn root(words: &[u64], out: &mut [u8]) -> Answer
     ensures { Roots words.now out.old (number_of result) out.new }
 {
-    if words.len() < WORDS {
-        return Answer::NotSound;
-    }
-    stream::root::root(unpack(words), out)
+    stream::root::root(unpack(held(words)?), out)
 }

@@ -1,5 +1,5 @@
--- The hashes of a chunk tree: how hash at once gives them (`hash-law`), of the messages that the code makes in its buffers
--- (`leaf-message`, `parent-message`).
+-- The hashes of a chunk tree: hash at once refuses none of them (`hash-done`) and gives them (`hash-law`), of the messages that the code
+-- makes in its buffers (`leaf-message`, `parent-message`).
 use Prim.Native.Nat.{ℕ, suc, ◌+◌, ◌≤◌, min}
 use mathlib.Core.Bool.{true, false}
 use mathlib.Core.List.{List, [], ◌∷◌, ◌++◌, append-nil}
@@ -8,7 +8,10 @@ use native.Mathlib.Omega.{arith}
 use lib.ListN.{length, take, drop, length-take, length-drop, drop_of_length-le}
 use lib.Seq.{take_at, drop_at}
 use borrow.Author.Tests.{le-ltb}
+use Rattle.std.specs.Prelude.{Ok, IsOk}
 use Rattle.answers.specs.Judged.{Judged, first}
+use Rattle.answers.specs.Numbers.{Answer, number_of}
+use Rattle.answers.proofs.Outcome.{number-injective}
 use Rattle.fips.specs.Editions.{known, edition, editions}
 use Rattle.slices.specs.AtFront.{at_front}
 use Rattle.dwsha2.specs.Limit.{too_long}
@@ -33,6 +36,13 @@ none-applies : (bytes out : List ℕ) → too_long node_edition 0 (length bytes)
     first (hash_tests node_edition bytes 0 0 out) ≡ 0
 unfolding hash_tests first
 none-applies bytes out h room = rw (known-node, h, fits-none, node-size, le-ltb (length out) node_bytes room)
+
+-- it refuses nothing
+pub hash-done : (bytes out : List ℕ) (r : Answer) {left : List ℕ} → too_long node_edition 0 (length bytes) ≡ false →
+    length out ≡ node_bytes → Judged (hash_tests node_edition bytes 0 0 out) out (hashed node_edition bytes 0 0 out) (number_of r) left →
+    IsOk r
+hash-done bytes out r h long j =
+    rw (number-injective r (Ok tt) (j.answer ∙ none-applies bytes out h (omega arith))) refl
 
 pub hash-law : (bytes out : List ℕ) {n : ℕ} {left : List ℕ} → too_long node_edition 0 (length bytes) ≡ false → length out ≡ node_bytes →
     Judged (hash_tests node_edition bytes 0 0 out) out (hashed node_edition bytes 0 0 out) n left → left ≡ sha256 bytes

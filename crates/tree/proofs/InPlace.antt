@@ -1,19 +1,20 @@
 -- A level computed in place, the leaves put one after the other, and level after level: the invariants of the loops, and their turns.
 -- What is done and what is left decide: the nodes written so far, and the nodes that the rest of the bytes gives. `root-steps`: the leaves
 -- of all chunks, and the node above them, make the root.
-use Prim.Native.Nat.{ℕ, suc, ◌+◌, ◌-◌, ◌*◌, ◌/◌, ◌<◌, ◌≤◌}
-use mathlib.Core.List.{List, ◌∷◌, ◌++◌, map, append-nil, flatten}
+use Prim.Native.Nat.{ℕ, suc, ◌+◌, ◌-◌, ◌*◌, ◌/◌, ◌<◌, ◌≤◌, min}
+use mathlib.Core.List.{List, [], ◌∷◌, ◌++◌, map, append-nil, flatten}
 use mathlib.Core.Path.{◌≡◌, refl, sym, ap, ap₂, subst⁻¹, ◌∙◌}
 use native.Mathlib.Nat.{sub-zero}
 use native.Mathlib.Numerals.{add-one}
 use native.Mathlib.Omega.{arith}
 use lib.ListN.{length, take, drop, length-append, length-drop, take-append-drop}
-use lib.Seq.{append_snoc, drop-drop, length-take-le}
+use lib.Seq.{append_snoc, drop-drop, take_all, take_at, drop_at, length-take-le}
 use Rattle.slices.proofs.AtFront.{at_front-room}
-use Rattle.slices.proofs.Parts.{part_to, part-all, length-put-in, drop-put}
+use Rattle.slices.proofs.Parts.{length-put-in, drop-put}
 use Rattle.fips.specs.Bits.{pieces}
 use Rattle.treerule.specs.Root.{chunk_bytes, node_bytes, chunk_count, Node, chunks, leaf, parent, up, top, root}
 use Rattle.treerule.proofs.Pieces.{length-pieces, pieces-front}
+use Rattle.treerule.proofs.Root.{chunks-one, chunks-none}
 use Rattle.treerule.proofs.Levels.{top_one, top_up}
 use Rattle.tree.specs.Code.Held.{pair_bytes, held, node_at, put_node, levelled}
 use Rattle.tree.proofs.Held.{held-put, flat-held, held-levelled, length-levelled, up-lone, up-pair}
@@ -114,58 +115,68 @@ raised_all old buffer j h r =
 
 -- ---- the leaves
 
--- i leaves are in place
-pub record Leaved (bytes : List ℕ) (count : ℕ) (old buffer : List ℕ) (i : ℕ) : Type 0 where
-  pub long : length buffer ≡ length old
-  pub within : i ≤ count
-  pub nodes : held i buffer ++ map leaf (pieces chunk_bytes (count - i) (drop (i * chunk_bytes) bytes))
-      ≡ map leaf (pieces chunk_bytes count bytes)
+-- a chunk, or all that is left, and what follows it
+chunks-more : (chunk rest : List ℕ) → length chunk ≡ min chunk_bytes (length (chunk ++ rest)) → 0 < length (chunk ++ rest) →
+    chunks (chunk ++ rest) ≡ chunk ∷ chunks rest
+unfolding chunks pieces
+chunks-more chunk [] few some =
+    let all = append-nil chunk in
+    let size : length (chunk ++ []) ≡ length chunk = ap length all in
+    ap chunks all ∙ chunks-one chunk (omega arith) (omega arith) ∙ ap (λ (l : List (List ℕ)). chunk ∷ l) (sym (chunks-none [] refl))
+chunks-more chunk (x ∷ xs) few some =
+    let rest = x ∷ xs in
+    let size = length-append chunk rest in
+    let whole : length chunk ≡ chunk_bytes = omega arith in
+    let one : chunk_count (length (chunk ++ rest)) ≡ suc (chunk_count (length rest)) = omega arith in
+    ap (λ (k : ℕ). pieces chunk_bytes k (chunk ++ rest)) one
+    ∙ ap₂ (λ (c l : List ℕ). c ∷ pieces chunk_bytes (chunk_count (length rest)) l)
+    (take_at chunk rest chunk_bytes whole) (drop_at chunk rest chunk_bytes whole)
 
-pub leaved-none : (bytes : List ℕ) (count : ℕ) (old : List ℕ) → Leaved bytes count old old 0
-unfolding pieces
-leaved-none bytes count old = record { long = refl; within = omega arith; nodes = rw sub-zero }
+-- i leaves are in place, and these bytes are left
+pub record Leaved (bytes buffer left : List ℕ) (i : ℕ) : Type 0 where
+  pub count : i + chunk_count (length left) ≡ chunk_count (length bytes)
+  pub nodes : held i buffer ++ map leaf (chunks left) ≡ map leaf (chunks bytes)
 
-leaved-one : (bytes : List ℕ) (count : ℕ) (old buffer : List ℕ) (i : ℕ) {node : Node} →
-    count * node_bytes ≤ length old → i < count → Leaved bytes count old buffer i → length node ≡ node_bytes →
-    node ≡ leaf (take chunk_bytes (drop (i * chunk_bytes) bytes)) → Leaved bytes count old (put_node i node buffer) (i + 1)
+pub leaved-none : (bytes buffer left : List ℕ) (i : ℕ) → left ≡ bytes → i ≡ 0 → Leaved bytes buffer left i
 unfolding pieces
-leaved-one bytes count old buffer i {node} room h r whole is =
-    let left = drop (i * chunk_bytes) bytes in
-    let k = count - (i + 1) in
-    let one : count - i ≡ suc k = omega arith in
-    let on : (i + 1) * chunk_bytes ≡ i * chunk_bytes + chunk_bytes = omega arith in
-    let space : i * node_bytes + node_bytes ≤ length buffer = omega (arith, r.long) in
-    let rest : drop ((i + 1) * chunk_bytes) bytes ≡ drop chunk_bytes left =
-    ap (λ (n : ℕ). drop n bytes) on ∙ sym (drop-drop chunk_bytes (i * chunk_bytes) bytes) in
+leaved-none bytes buffer left i is_left none =
     record {
-      long = length-put-in (i * node_bytes) node_bytes node buffer whole space ∙ r.long;
-      within = omega arith;
-      nodes =
-          ap (λ (l : List ℕ). held (i + 1) (put_node i node buffer) ++ map leaf (pieces chunk_bytes k l)) rest
-          ∙ moved i node buffer (map leaf (pieces chunk_bytes k (drop chunk_bytes left))) whole space
-          ∙ ap (λ (n : Node). held i buffer ++ (n ∷ map leaf (pieces chunk_bytes k (drop chunk_bytes left)))) is
-          ∙ ap (λ (n : ℕ). held i buffer ++ map leaf (pieces chunk_bytes n left)) (sym one)
-          ∙ r.nodes;
+      count = omega (arith, ap length is_left);
+      nodes = ap₂ (λ (n : ℕ) (l : List ℕ). held n buffer ++ map leaf (chunks l)) none is_left;
     }
 
-pub leaved-more : (bytes : List ℕ) (count : ℕ) (old buffer : List ℕ) (i : ℕ) {node : Node} {new : List ℕ} →
-    count * node_bytes ≤ length old → i < count → Leaved bytes count old buffer i → length node ≡ node_bytes →
-    node ≡ leaf (take chunk_bytes (part_to (i * chunk_bytes) bytes)) →
-    new ≡ put_node i node buffer → Leaved bytes count old new (i + 1)
-leaved-more bytes count old buffer i room h r whole is put =
-    subst⁻¹ (λ (b : List ℕ). Leaved bytes count old b (i + 1)) put
-    (leaved-one bytes count old buffer i room h r whole
-    (is ∙ ap (λ (l : List ℕ). leaf (take chunk_bytes l)) (part-all (i * chunk_bytes) bytes)))
+-- one chunk more
+module _ {bytes buffer left : List ℕ} {i : ℕ} (room : chunk_count (length bytes) * node_bytes ≤ length buffer)
+    (r : Leaved bytes buffer left i) (chunk rest : List ℕ) (is_left : left ≡ chunk ++ rest)
+    (size : length chunk ≡ min chunk_bytes (length left)) (some : 0 < length left) where
+  pub leaved-room : i * node_bytes + node_bytes ≤ length buffer
+  leaved-room = omega (arith, r.count)
 
-pub leaved-all : (bytes : List ℕ) (count : ℕ) (old buffer : List ℕ) (i : ℕ) → count ≤ i → Leaved bytes count old buffer i →
-    held count buffer ≡ map leaf (pieces chunk_bytes count bytes)
-unfolding pieces
-leaved-all bytes count old buffer i h r =
-    let e : count ≡ i = omega (arith, r.within) in
-    let z : count - i ≡ 0 = omega arith in
-    ap (λ (n : ℕ). held n buffer) e
+  pub leaved-more : (k j : ℕ) {node next : List ℕ} → k ≡ i → j ≡ i + 1 → length node ≡ node_bytes → node ≡ leaf (take chunk_bytes chunk) →
+      next ≡ put_node k node buffer → Leaved bytes next rest j
+  leaved-more k j {node} {next} is_k is_j whole is_node put =
+      let leaves : map leaf (chunks left) ≡ node ∷ map leaf (chunks rest) =
+      ap (λ (l : List ℕ). map leaf (chunks l)) is_left
+      ∙ ap (map leaf) (chunks-more chunk rest (rw (sym is_left) size) (rw (sym is_left) some))
+      ∙ ap (λ (n : Node). n ∷ map leaf (chunks rest))
+      (sym (is_node ∙ ap leaf (take_all chunk_bytes chunk (omega arith)))) in
+      record {
+        count = omega (arith, r.count, ap length is_left, length-append chunk rest);
+        nodes =
+            ap₂ (λ (n : ℕ) (b : List ℕ). held n b ++ map leaf (chunks rest)) is_j
+            (put ∙ ap (λ (n : ℕ). put_node n node buffer) is_k)
+            ∙ moved i node buffer (map leaf (chunks rest)) whole leaved-room
+            ∙ ap (λ (l : List Node). held i buffer ++ l) (sym leaves)
+            ∙ r.nodes;
+      }
+
+pub leaved-all : {bytes buffer left : List ℕ} {i : ℕ} → Leaved bytes buffer left i → length left ≡ 0 →
+    held (chunk_count (length bytes)) buffer ≡ map leaf (chunks bytes)
+leaved-all {bytes} {buffer} {left} {i} r none =
+    let all : chunk_count (length bytes) ≡ i = omega (arith, r.count) in
+    ap (λ (n : ℕ). held n buffer) all
     ∙ sym (append-nil (held i buffer))
-    ∙ ap (λ (n : ℕ). held i buffer ++ map leaf (pieces chunk_bytes n (drop (i * chunk_bytes) bytes))) (sym z)
+    ∙ ap (λ (l : List (List ℕ)). held i buffer ++ map leaf l) (sym (chunks-none left none))
     ∙ r.nodes
 
 -- ---- level after level
@@ -181,10 +192,10 @@ pub climbed-none : (old : List ℕ) (count : ℕ) → 0 < count → Climbed old 
 climbed-none old count h = record { long = refl; some = h; within = omega arith; above = refl }
 
 -- the nodes that are left are lent as a part, which comes back as the level above them
-pub climbed-more : (old : List ℕ) (count : ℕ) (buffer : List ℕ) (left : ℕ) {part : List ℕ} →
+pub climbed-more : (old : List ℕ) (count : ℕ) (buffer : List ℕ) (left : ℕ) {part : List ℕ} {half : ℕ} →
     count * node_bytes ≤ length old → 1 < left → Climbed old count buffer left → part ≡ levelled (take (left * node_bytes) buffer) →
-    Climbed old count (part ++ drop (left * node_bytes) buffer) ((left + 1) / 2)
-climbed-more old count buffer left {part} room h r is =
+    half ≡ (left + 1) / 2 → Climbed old count (part ++ drop (left * node_bytes) buffer) half
+climbed-more old count buffer left {part} room h r is is_half =
     let front = take (left * node_bytes) buffer in
     let rest = drop (left * node_bytes) buffer in
     let long : length front ≡ left * node_bytes = length-take-le (left * node_bytes) buffer (omega (arith, r.long, r.within)) in
@@ -196,7 +207,7 @@ climbed-more old count buffer left {part} room h r is =
       some = omega arith;
       within = omega (arith, r.within);
       above =
-          ap (λ (l : List ℕ). top (held ((left + 1) / 2) (l ++ rest))) is
+          ap₂ (λ (n : ℕ) (l : List ℕ). top (held n (l ++ rest))) is_half is
           ∙ ap top (held-levelled left front rest long ∙ ap up nodes)
           ∙ top_up (held left buffer) (rw (length-pieces node_bytes left buffer) r.some)
           ∙ r.above;

@@ -4,7 +4,7 @@ use Prim.Native.Nat.{ℕ}
 use mathlib.Core.List.{List}
 use mathlib.Core.Path.{◌≡◌, ap, ◌∙◌}
 use Rattle.contracts.specs.Says.{Made, exit}
-use Rattle.answers.specs.declared.Answer.{Answer}
+use Rattle.std.specs.Prelude.{Ok}
 use Rattle.answers.proofs.Refusals.{done-leaves}
 use Rattle.slices.specs.AtFront.{at_front}
 use Rattle.treerule.specs.Root.{Node, chunks, leaf}
@@ -14,7 +14,7 @@ use Rattle.tree.specs.Tree.{rooted}
 use Rattle.tree.specs.contracts.whole.tree as tree
 use Rattle.tree.proofs.whole.tree.Reads as tree-reads
 
-pub tree-rfc6962 : {hash : List (List ℕ) → Node} → Rfc6962 leaf hash → (m : Made tree.ended tree-reads.Learnt) → m.result ≡ Answer.Done →
+pub tree-rfc6962 : {hash : List (List ℕ) → Node} → Rfc6962 leaf hash → (m : Made tree.ended tree-reads.Learnt) → m.result ≡ Ok tt →
     (exit m).1.0.now ≡ at_front (hash (chunks m.args.0.now)) m.args.1.0.now
 unfolding rooted
 tree-rfc6962 rule m e =

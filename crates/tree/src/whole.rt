@@ -1,13 +1,12 @@
 // The tree of a whole map: its leaves in a buffer of nodes, then one level after the other in their place, up to the root.
 ghost use Rattle.std.specs.Prelude.{◌≡◌, map as each, ◌+◌, ◌*◌, ◌<◌, ◌≤◌, length, take};
 ghost use Rattle.answers.specs.Numbers.{number_of};
-ghost use Rattle.fips.specs.Bits.{pieces};
 ghost use Rattle.tree.specs.Code.Held.{held, node_at, put_node, levelled};
 ghost use Rattle.tree.specs.Tree.{tree_limit, Trees};
-ghost use Rattle.treerule.specs.Root.{chunk_bytes, node_bytes, leaf as leaf_of, top, root as root_of};
+ghost use Rattle.treerule.specs.Root.{node_bytes, chunk_count, chunks, leaf as leaf_of, top, root as root_of};
 
 use crate::node::{CHUNK, NODE, leaf, nothing, parent};
-use answers::Answer;
+use answers::{Answer, Refusal};
 use slices::front::put_front;
 
 // House: at most 1 MiB.
@@ -16,18 +15,14 @@ const LIMIT: usize = 1_048_576;
 // The bytes of the leaves of so many.
 const ROOM: usize = LIMIT / CHUNK * NODE;
 
-// What is added to round bytes up to whole chunks.
-const UP: usize = CHUNK - 1;
-
+// Nodes are read and put by their place in a slice of bytes: `level` is lent bytes under a C name, and what `as_chunks_mut` or `chunks_mut`
+// lend leaves the bytes unsaid.
 fn node_at(nodes: &[u8], i: usize) -> [u8; NODE]
     requires { i * node_bytes + node_bytes ≤ length nodes.now }
     ensures { result ≡ node_at i nodes.now }
 {
     let start = i * NODE;
-    let end = start + NODE;
-    let mut node = [0u8; NODE];
-    put_front(&mut node, &nodes[start..end]);
-    node
+    *nodes[start..].first_chunk().unwrap()
 }
 
 // The node in its place, and every other byte as it was.
@@ -37,7 +32,7 @@ fn put_node(nodes: &mut [u8], i: usize, node: [u8; NODE])
 {
     let start = i * NODE;
     let end = start + NODE;
-    put_front(&mut nodes[start..end], &node);
+    nodes[start..end].copy_from_slice(&node);
 }
 
 // One level up from all the nodes that the bytes hold, in place: each parent takes the place of a node that is read no more. A lone last
@@ -46,18 +41,15 @@ pub fn level(nodes: &mut [u8])
     ensures { nodes.new ≡ levelled nodes.old }
 {
     let count = nodes.len() / NODE;
-    let mut j = 0;
-    while 2 * j + 1 < count {
+    for j in 0..count / 2 {
         let left = node_at(nodes, 2 * j);
         let right = node_at(nodes, 2 * j + 1);
         put_node(nodes, j, parent(left, right));
-        j += 1;
     }
-    if count <= 2 * j {
-        return;
+    if count % 2 == 1 {
+        let lone = node_at(nodes, count - 1);
+        put_node(nodes, count / 2, lone);
     }
-    let lone = node_at(nodes, 2 * j);
-    put_node(nodes, j, lone);
 }
 
 // Level after level until one node is left, at the front.
@@ -66,24 +58,21 @@ fn rise(nodes: &mut [u8], count: usize)
     ensures { take node_bytes nodes.new ≡ top (held count nodes.old) }
 {
     let mut left = count;
+    // no iterator goes by halves
     while 1 < left {
         let end = left * NODE;
         level(&mut nodes[..end]);
-        left = (left + 1) / 2;
+        left = left.div_ceil(2);
     }
 }
 
-// The leaves of the first chunks, as many as `count` says.
-fn leaves(map: &[u8], count: usize, nodes: &mut [u8])
-    requires { (count * chunk_bytes ≤ length map.now + chunk_bytes) × (count * node_bytes ≤ length nodes.old) }
-    ensures { held count nodes.new ≡ each leaf_of (pieces chunk_bytes count map.now) }
+// The leaves of all chunks, one behind the other.
+fn leaves(map: &[u8], nodes: &mut [u8])
+    requires { chunk_count (length map.now) * node_bytes ≤ length nodes.old }
+    ensures { held (chunk_count (length map.now)) nodes.new ≡ each leaf_of (chunks map.now) }
 {
-    let mut i = 0;
-    while i < count {
-        let start = i * CHUNK;
-        let node = leaf(&map[start..]);
-        put_node(nodes, i, node);
-        i += 1;
+    for (i, chunk) in map.chunks(CHUNK).enumerate() {
+        put_node(nodes, i, leaf(chunk));
     }
 }
 
@@ -92,13 +81,12 @@ fn root(map: &[u8]) -> [u8; NODE]
     requires { length map.now ≤ tree_limit }
     ensures { result ≡ root_of map.now }
 {
-    if map.len() == 0 {
+    if map.is_empty() {
         return nothing();
     }
-    let count = (map.len() + UP) / CHUNK;
     let mut nodes = [0u8; ROOM];
-    leaves(map, count, &mut nodes);
-    rise(&mut nodes, count);
+    leaves(map, &mut nodes);
+    rise(&mut nodes, map.len().div_ceil(CHUNK));
     node_at(&nodes, 0)
 }
 
@@ -107,12 +95,12 @@ pub fn tree(map: &[u8], out: &mut [u8]) -> Answer
     ensures { Trees map.now out.old (number_of result) out.new }
 {
     if LIMIT < map.len() {
-        return Answer::TooLong;
+        return Err(Refusal::TooLong);
     }
     if out.len() < NODE {
-        return Answer::ShortOutput;
+        return Err(Refusal::ShortOutput);
     }
     let node = root(map);
     put_front(out, &node);
-    Answer::Done
+    Ok(())
 }

@@ -14,16 +14,14 @@ use slices::front::put_front;
 pub extern "C" fn part_leaf(bytes: &[u8], out: &mut [u8])
     ensures { out.new ≡ at_front (leaf (take chunk_bytes bytes.now)) out.old }
 {
-    let node = tree::node::leaf(bytes);
-    put_front(out, &node);
+    put_front(out, &tree::node::leaf(bytes));
 }
 
 #[unsafe(no_mangle)]
 pub extern "C" fn part_parent(left: &[u8; 32], right: &[u8; 32], out: &mut [u8])
     ensures { out.new ≡ at_front (parent left.now right.now) out.old }
 {
-    let node = tree::node::parent(*left, *right);
-    put_front(out, &node);
+    put_front(out, &tree::node::parent(*left, *right));
 }
 
 // The level above all nodes that the bytes hold.

@@ -1,93 +1,80 @@
 // A line of a file of hashes: `edition bits hexmessage hexdigest`. `-` is the empty message, `a*1000000` a million letters a; of a message
 // whose length is no multiple of eight, the last bits are the upper ones of its last byte.
-use hexlines::Number;
 use slices::places::part;
-use slices::same::same_bytes;
+use slices::same::same;
 
-// Whether the digest of the message, bytes and closing bits, is the one expected.
-fn digest_is(edition: u64, message: &[u8], closing: u8, bits: u64, expected: &[u8]) -> bool {
-    let n = fips::lookup::digest_bytes(edition);
-    let mut out = [0u8; 64];
-    let answer = dwsha2::hash::hash(edition, message, closing, bits, &mut out);
-    let right = same_bytes(part(&out, 0, n), expected);
-    answers::number(answer) == 0 && right
+// What a line says of its message: in which edition, how many bits it has, and what its digest is.
+#[derive(Clone, Copy)]
+struct Claim<'a> {
+    edition: u64,
+    bits: u64,
+    digest: &'a [u8],
 }
 
-fn million_digest_is(edition: u64, message: &[u8; 1000000], expected: &[u8]) -> bool {
-    digest_is(edition, message, 0, 0, expected)
-}
+impl Claim<'_> {
+    // Whether hash at once writes that digest of the bytes and so many closing bits.
+    fn holds(&self, bytes: &[u8], closing: u8, over: u64) -> bool {
+        let mut out = [0u8; 64];
+        let answer = dwsha2::hash::hash(self.edition, bytes, closing, over, &mut out);
+        let n = fips::lookup::digest_bytes(self.edition);
+        answer.is_ok() && same(part(&out, 0, n), self.digest)
+    }
 
-// A million letters a.
-fn million(edition: u64, expected: &[u8]) -> bool {
-    let message = [b'a'; 1000000];
-    million_digest_is(edition, &message, expected)
-}
-
-// The message as bytes and closing bits, where it has as many bytes as its bits need.
-fn bits_digest_is(edition: u64, bits: u64, message: &[u8], expected: &[u8]) -> bool {
-    let whole = (bits / 8) as usize;
-    let over = bits % 8;
-    if over == 0 {
-        if message.len() != whole {
+    // The same of a message, which has as many bytes as its bits need.
+    fn holds_of(&self, message: &[u8]) -> bool {
+        let Some((bytes, rest)) = message.split_at_checked((self.bits / 8) as usize) else {
             return false;
+        };
+        let over = self.bits % 8;
+        match rest {
+            [] => over == 0 && self.holds(bytes, 0, 0),
+            [last] => over != 0 && self.holds(bytes, *last, over),
+            _ => false,
         }
-        return digest_is(edition, message, 0, 0, expected);
     }
-    if message.len() == 0 {
-        return false;
+
+    // The same of a message in hexadecimal, of up to 16,384 bytes.
+    fn holds_of_hex(&self, text: &[u8]) -> bool {
+        let mut message = [0u8; 16384];
+        match hexlines::unhex_all(text, &mut message) {
+            Some(n) => self.holds_of(part(&message, 0, n)),
+            None => false,
+        }
     }
-    let last = message.len() - 1;
-    if last != whole {
-        return false;
+
+    // A function of its own, so that no goal has the array's million bytes.
+    fn holds_of_array(&self, message: &[u8; 1000000]) -> bool {
+        self.holds_of(message)
     }
-    digest_is(
-        edition,
-        part(message, 0, last),
-        message[last],
-        over,
-        expected,
-    )
+
+    // The same of a million letters a.
+    fn holds_of_million(&self) -> bool {
+        let message = [b'a'; 1000000];
+        self.holds_of_array(&message)
+    }
+
+    // The same of a message as the line has it.
+    fn holds_of_text(&self, text: &[u8]) -> bool {
+        match text {
+            b"-" => self.holds_of(b""),
+            b"a*1000000" => self.holds_of_million(),
+            _ => self.holds_of_hex(text),
+        }
+    }
 }
 
-// The same of a message in hexadecimal, of up to 16,384 bytes.
-fn hex_digest_is(edition: u64, bits: u64, text: &[u8], expected: &[u8]) -> bool {
-    if !hexlines::is_hex(text) {
-        return false;
-    }
-    if 32768 < text.len() {
-        return false;
-    }
-    let mut message = [0u8; 16384];
-    let n = hexlines::unhex(text, &mut message);
-    bits_digest_is(edition, bits, part(&message, 0, n), expected)
-}
-
-fn message_digest_is(edition: u64, bits: u64, text: &[u8], expected: &[u8]) -> bool {
-    if same_bytes(text, b"-") {
-        return bits_digest_is(edition, bits, part(text, 0, 0), expected);
-    }
-    if same_bytes(text, b"a*1000000") {
-        return bits == 8000000 && million(edition, expected);
-    }
-    hex_digest_is(edition, bits, text, expected)
-}
-
-// Whether the line holds: it reads as such a line does, and its digest is what hash at once writes.
-pub(crate) fn holds(line: &[u8]) -> bool {
-    let Number::Is(edition) = hexlines::decimal(hexlines::first_field(line)) else {
-        return false;
-    };
+// Whether a line holds: its digest is what hash at once writes. None where it reads as no such line does.
+pub(crate) fn holds(line: &[u8]) -> Option<bool> {
+    let edition = hexlines::decimal(hexlines::first_field(line))?;
     let after = hexlines::other_fields(line);
-    let Number::Is(bits) = hexlines::decimal(hexlines::first_field(after)) else {
-        return false;
-    };
+    let bits = hexlines::decimal(hexlines::first_field(after))?;
     let texts = hexlines::other_fields(after);
-    let mut bytes = [0u8; 64];
-    let n = hexlines::unhex_all(hexlines::other_fields(texts), &mut bytes);
-    message_digest_is(
+    let mut room = [0u8; 64];
+    let n = hexlines::unhex_all(hexlines::other_fields(texts), &mut room)?;
+    let claim = Claim {
         edition,
         bits,
-        hexlines::first_field(texts),
-        part(&bytes, 0, n),
-    )
+        digest: part(&room, 0, n),
+    };
+    Some(claim.holds_of_text(hexlines::first_field(texts)))
 }

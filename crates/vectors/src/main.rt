@@ -8,8 +8,13 @@ mod line;
 use std::io;
 
 fn main(rt: HostRuntime) -> io::Result<()> {
-    file::report(&rt, "nist_byte_short.txt")?;
-    file::report(&rt, "nist_byte_long.txt")?;
-    file::report(&rt, "rfc6234_byte.txt")?;
-    file::report(&rt, "rfc6234_bit.txt")
+    for name in [
+        "nist_byte_short.txt",
+        "nist_byte_long.txt",
+        "rfc6234_byte.txt",
+        "rfc6234_bit.txt",
+    ] {
+        file::report(&rt, name)?;
+    }
+    Ok(())
 }

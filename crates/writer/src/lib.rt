@@ -4,7 +4,7 @@
 
 mod moving;
 
-ghost use Rattle.std.specs.Prelude.{◌≡◌};
+ghost use Rattle.std.specs.Prelude.{true, ◌≡◌};
 ghost use Rattle.answers.specs.Judged.{first};
 ghost use Rattle.answers.specs.Numbers.{number_of};
 ghost use Rattle.lists.specs.Code.Place.{earlier, Placed};
@@ -12,7 +12,7 @@ ghost use Rattle.lists.specs.Layout.{read_list};
 ghost use Rattle.writer.specs.Code.Moves.{name_spot};
 ghost use Rattle.writer.specs.Writing.{Starts, front_list, put_tests, put_in, Puts, Lends};
 
-use answers::Answer;
+use answers::{Answer, Refusal};
 use bigendian::rows::field;
 use lists::{Placing, entries, fields};
 use slices::places::part;
@@ -22,13 +22,13 @@ pub fn start(edition: u64, buffer: &mut [u8]) -> Answer
     ensures { Starts edition buffer.old (number_of result) buffer.new }
 {
     if !fips::lookup::known(edition) {
-        return Answer::NoSuchEdition;
+        return Err(Refusal::NoSuchEdition);
     }
     if buffer.len() < fields::ENTRIES_AT {
-        return Answer::ShortOutput;
+        return Err(Refusal::ShortOutput);
     }
     moving::put_header(buffer, edition, 0, fields::ENTRIES_AT, fields::ENTRIES_AT);
-    Answer::Done
+    Ok(())
 }
 
 // The list at the front, as long as its own length field says; cut where that passes the buffer, and then it is no list.
@@ -42,32 +42,29 @@ fn front(buffer: &[u8]) -> &[u8]
     )
 }
 
-// The first refusal, or Done, by what one reading told of the list at the front and of the name.
+// The refusals behind that of bytes that are no list, in their order, by what one reading told of the list at the front and of the name.
 fn refusal(buffer: &[u8], place: Placing, name: &[u8], digest: &[u8]) -> Answer
-    requires { Placed (front_list buffer.now) name.now place.accepted place.earlier place.listed }
+    requires { Placed (front_list buffer.now) name.now true place.earlier place.listed }
     ensures { number_of result ≡ first (put_tests buffer.now name.now digest.now) }
 {
     let list = front(buffer);
     let size = entries::digest_size(list);
-    if !place.accepted {
-        return Answer::NotAList;
-    }
     if !lists::names::allowed(name) {
-        return Answer::ForbiddenName;
+        return Err(Refusal::ForbiddenName);
     }
     if digest.len() != size {
-        return Answer::DigestDiffers;
+        return Err(Refusal::DigestDiffers);
     }
     if place.listed {
-        return Answer::NameTaken;
+        return Err(Refusal::NameTaken);
     }
     if lists::MOST_ENTRIES <= entries::count(list) {
-        return Answer::ListFull;
+        return Err(Refusal::ListFull);
     }
     if buffer.len() - list.len() < fields::ENTRY_HEAD + digest.len() + name.len() {
-        return Answer::ShortOutput;
+        return Err(Refusal::ShortOutput);
     }
-    Answer::Done
+    Ok(())
 }
 
 // Where in the old list the new name belongs: where the name of the entry begins that the new entry comes before, and behind the last name
@@ -113,11 +110,8 @@ pub fn put(buffer: &mut [u8], name: &[u8], digest: &[u8]) -> Answer
     ensures puts { Puts buffer.old name.now digest.now (number_of result) buffer.new }
     ensures lends { Lends buffer.old name.now digest.now }
 {
-    let place = lists::place(front(buffer), name);
-    let earlier = place.earlier;
-    let answer = refusal(buffer, place, name, digest);
-    if let Answer::Done = answer {
-        insert(buffer, earlier, name, digest);
-    }
-    answer
+    let place = lists::place(front(buffer), name)?;
+    refusal(buffer, place, name, digest)?;
+    insert(buffer, place.earlier, name, digest);
+    Ok(())
 }

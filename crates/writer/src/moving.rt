@@ -1,5 +1,5 @@
-// The moving pass of `put`: what stands behind a place is moved towards the end to make room there, each byte once and the last one first,
-// and then offsets and header are written anew. Nothing is copied elsewhere meanwhile.
+// The moving pass of `put`: what stands behind a place is moved towards the end to make room there, what stands last first, and then
+// offsets and header are written anew. Nothing is copied elsewhere meanwhile.
 ghost use Rattle.std.specs.Prelude.{◌≡◌, ◌++◌, ◌+◌, ◌*◌, ◌^◌, ◌<◌, ◌≤◌, length, drop};
 ghost use Rattle.bigendian.specs.Rows.{row_bytes};
 ghost use Rattle.lists.specs.Layout.{entry_head, entry_size, entries_at, list_row, entry_row};
@@ -10,14 +10,12 @@ use bigendian::rows::{field, put_row};
 use lists::fields;
 use slices::front::put_front;
 
-// Moves bytes towards the end by so many places, as far as they find room; the last one moves first, so none is lost.
+// Moves bytes towards the end by so many places, as far as they find room.
 pub(crate) fn slide(bytes: &mut [u8], by: usize)
     ensures { bytes.new ≡ slid by bytes.old }
 {
-    let mut i = bytes.len();
-    while by < i {
-        i -= 1;
-        bytes[i] = bytes[i - by];
+    if by < bytes.len() {
+        bytes.copy_within(..bytes.len() - by, by);
     }
 }
 
@@ -26,11 +24,8 @@ pub(crate) fn raise(entries: &mut [u8], n: usize, size: usize, by: usize)
     requires { (entry_head ≤ size) × (length entries.old ≡ n * size) × (by < 2 ^ 32) }
     ensures { entries.new ≡ raised n size by entries.old }
 {
-    let mut at = entries.len();
-    let mut i = n;
-    while 0 < i {
-        i -= 1;
-        at -= size;
+    for i in (0..n).rev() {
+        let at = i * size;
         let offset = field(entries, at, fields::OFFSET);
         put(&mut entries[at..at + fields::OFFSET], offset + by as u64);
     }

@@ -8,17 +8,9 @@ ghost use Rattle.report.specs.Code.Program.{Verdicted};
 
 use lines::{Tally, Verdict};
 use lists::entries;
-use reading::Filled;
 use report::file;
-use std::io::{Stderr, Stdout};
-
-// Writes the line of n bytes at the front of a buffer.
-fn write<W: Print>(to: &W, out: &[u8], n: usize) -> bool {
-    if out.len() < n {
-        return false;
-    }
-    to.write_all(&out[..n]).is_ok()
-}
+use slices::places::part;
+use std::io::{self, Stderr, Stdout};
 
 fn verdict(list: &[u8], i: usize, table: &mut [u64], rt: &HostRuntime) -> Verdict
     ensures { Verdicted list.now i table.old result }
@@ -27,10 +19,10 @@ fn verdict(list: &[u8], i: usize, table: &mut [u64], rt: &HostRuntime) -> Verdic
     file::verdict(ending, table, list, i)
 }
 
-fn write_line(to: &Stdout, verdict: Verdict, list: &[u8], i: usize) -> bool {
+fn write_line(to: &Stdout, verdict: Verdict, list: &[u8], i: usize) -> io::Result<()> {
     let mut out = [0u8; lines::ROOM];
     let n = lines::line(verdict, list, i, &mut out);
-    write(to, &out, n)
+    to.write_all(part(&out, 0, n))
 }
 
 // A reason that cannot be written is lost, and the check goes on: what is said of the files is on standard output.
@@ -38,51 +30,40 @@ fn write_reason(to: &Stderr, verdict: Verdict, list: &[u8], i: usize) {
     if let Verdict::Missing(why) = verdict {
         let mut out = [0u8; lines::ROOM];
         let n = lines::reason(why, list, i, &mut out);
-        write(to, &out, n);
+        let _ = to.write_all(part(&out, 0, n));
     }
 }
 
-fn write_counts(to: &Stdout, tally: Tally) {
+fn write_counts(to: &Stdout, tally: Tally) -> io::Result<()> {
     let mut out = [0u8; lines::ROOM];
     let n = lines::counts(tally, &mut out);
-    write(to, &out, n);
+    to.write_all(part(&out, 0, n))
 }
 
-fn write_not_a_list(to: &Stdout) {
+fn write_not_a_list(to: &Stdout) -> io::Result<()> {
     let mut out = [0u8; lines::ROOM];
     let n = lines::not_a_list(&mut out);
-    write(to, &out, n);
+    to.write_all(part(&out, 0, n))
 }
 
 // A line that cannot be written ends the program, so that what is written is always the beginning of what is to be.
-fn check(list: &[u8], rt: &HostRuntime) {
+fn check(list: &[u8], rt: &HostRuntime) -> io::Result<()> {
     let mut table = [0u64; bays::table::ONE_BAY];
-    let mut tally = Tally {
-        listed: 0,
-        ok: 0,
-        bad: 0,
-        missing: 0,
-    };
+    let mut tally = Tally::default();
     for i in 0..entries::count(list) {
         let v = verdict(list, i, &mut table, rt);
-        if !write_line(&rt.stdout(), v, list, i) {
-            return;
-        }
+        write_line(&rt.stdout(), v, list, i)?;
         write_reason(&rt.stderr(), v, list, i);
         tally = lines::counted(tally, v);
     }
-    write_counts(&rt.stdout(), tally);
+    write_counts(&rt.stdout(), tally)
 }
 
 // A buffer of one byte more than the longest list has: bytes that fill it are no list (`list-short` of `lists`).
 fn main(rt: HostRuntime) {
     let mut buffer = [0u8; lists::LONGEST + 1];
-    if let Filled::Bytes(n) = reading::whole(&rt, b"yard.man", &mut buffer) {
-        let list = &buffer[..n];
-        if lists::is_list(list) {
-            check(list, &rt);
-            return;
-        }
-    }
-    write_not_a_list(&rt.stdout());
+    let _ = match reading::whole(&rt, b"yard.man", &mut buffer) {
+        Some(n) if lists::is_list(&buffer[..n]) => check(&buffer[..n], &rt),
+        _ => write_not_a_list(&rt.stdout()),
+    };
 }

@@ -5,6 +5,10 @@ use mathlib.Core.Bool.{true}
 use mathlib.Core.List.{List}
 use mathlib.Core.Path.{◌≡◌, refl, sym, subst, ◌∙◌}
 use lib.ListN.{length, take, replicate}
+use borrow.Author.Tests.{eqb-true}
+use Rattle.std.specs.Prelude.{Result, Ok, Err}
+use Rattle.std.specs.Result.{is_ok as is-done}
+use Rattle.answers.specs.Numbers.{Answer, number_of}
 use Rattle.answers.proofs.Refusals.{refused-leaves}
 use Rattle.slices.proofs.Tests.{same_refl}
 use Rattle.fips.specs.Editions.{known, digest_bytes}
@@ -14,7 +18,6 @@ use Rattle.calls.proofs.Runs.{runs}
 use Rattle.lists.specs.Layout.{edition_in}
 use Rattle.writer.specs.Writing.{Puts}
 use Rattle.listing.specs.declared.Reason.{Reason}
-use Rattle.listing.specs.declared.Step.{Step}
 use Rattle.listing.specs.Rules.{answered}
 use Rattle.listing.proofs.Rules.{answered-done, answered-refused}
 use Rattle.lines.specs.declared.Verdict.{Verdict}
@@ -23,16 +26,17 @@ use Rattle.report.specs.Report.{bytes, verdict}
 use Rattle.report.specs.Code.Files.{begun, close, judged, ends_as, ending, after_all, said, AllBytes, joined}
 use Rattle.report.specs.Code.Program.{File, unread, pieces, Led, Over}
 use Rattle.report.proofs.Means.{ok-means}
+use Rattle.report.proofs.Through.{done-number}
 use Rattle.report.proofs.Verdicts.{file-verdict}
 use Rattle.yardlist.specs.Entered.{closed_digest, Closed, Listed, Entered}
 
 -- ---- cases of an enum that exclude each other
 
-abbrev IsDone : Step → Type 0
-IsDone Step.Done = Unit {0}
-IsDone (Step.Refused r) = ⊥
+abbrev IsDone : Result Unit Reason → Type 0
+IsDone (Ok a) = Unit {0}
+IsDone (Err r) = ⊥
 
-not_done : (r : Reason) → Step.Refused r ≡ Step.Done → ⊥
+not_done : (r : Reason) → ◌≡◌ {A = Result Unit Reason} (Err r) (Ok tt) → ⊥
 not_done r h = subst IsDone (sym h) tt
 
 abbrev IsWhole : Ending → Type 0
@@ -44,20 +48,20 @@ IsWhole (Ending.Unread why) = ⊥
 
 module _ (buffer name t : List ℕ) where
   -- no pair was put
-  pub unclosed : (r : Reason) → Closed buffer name t (Step.Refused r) buffer
+  pub unclosed : (r : Reason) → Closed buffer name t (Err r) buffer
   unclosed r = record { kept = λ s h. refl; listed = λ h. absurd (not_done r h) }
 
-  pub closes : {to table left : List ℕ} {r : ℕ} (n e size k : ℕ) (step : Step) →
-      Outcome t (closing 0 0 0 (replicate 64 0)) r table to → n ≡ r → n ≡ 0 → size ≡ digest_bytes e → e ≡ edition_in buffer →
+  pub closes : {to table left : List ℕ} (a : Answer) (e size k : ℕ) (step : Result Unit Reason) →
+      Outcome t (closing 0 0 0 (replicate 64 0)) (number_of a) table to → is-done a ≡ true → size ≡ digest_bytes e → e ≡ edition_in buffer →
       Puts buffer name (take size to) k left → step ≡ answered k → Closed buffer name t step left
-  closes {to} {left = left} n e size k step p h z d g puts s =
+  closes {to} {left = left} a e size k step p h d g puts s =
       let ran = runs t (closing 0 0 0 (replicate 64 0)) p in
       let same-digest : take size to ≡ closed_digest buffer t = rw (d, g, ran.2) in
       record {
         kept = λ r f. refused-leaves puts (answered-refused k r (sym s ∙ f));
         listed =
             λ f. (
-              ran.0 ∙ sym h ∙ z,
+              ran.0 ∙ eqb-true (number_of a) 0 (sym (done-number a) ∙ h),
               subst (λ (i : ℕ). Puts buffer name (closed_digest buffer t) i left) (answered-done k (sym s ∙ f))
                   (subst (λ (l : List ℕ). Puts buffer name l k left) same-digest puts),
             );
@@ -92,8 +96,8 @@ module _ (buffer name words : List ℕ) where
         listed = subst (λ (l : List ℕ). Puts buffer name l 0 left) (sym means.1.2) puts;
       }
 
-  pub entered : (t left : List ℕ) (step : Step) (f : File) → Led words edition f Ending.Whole t → Closed buffer name t step left →
-      Entered buffer name words step left
+  pub entered : (t left : List ℕ) (step : Result Unit Reason) (f : File) → Led words edition f Ending.Whole t →
+      Closed buffer name t step left → Entered buffer name words step left
   entered t left step (unread why) l c = absurd (subst IsWhole l tt)
   entered t left step (pieces under ps) l c =
       record {
@@ -114,6 +118,6 @@ module _ (buffer name words : List ℕ) where
   over-it e t (pieces under ps) l = (l.0, l.1)
 
   pub not_entered : (e : Ending) (t : List ℕ) (r : Reason) (f : File) → Led words edition f e t →
-      Entered buffer name words (Step.Refused r) buffer
+      Entered buffer name words (Err r) buffer
   not_entered e t r f l =
       record { file = f; over = over-it e t f l; kept = λ s h. refl; done = λ k room h. absurd (not_done r h) }

@@ -1,17 +1,22 @@
--- `bigendian::cut_words` meets its contract. The invariant: the first i words of d, and the words of what is left of s, are those of s.
--- The measure is what is left of d.
+-- `bigendian::cut_words` meets its contract. The invariant: the first words of d, and the words of what is left of s, are those of s.
+use mathlib.Core.Path.{◌≡◌, sym, ◌∙◌}
+use Prim.Native.Nat.{◌-◌}
+use mathlib.Core.List.{[], append-nil}
 use native.Mathlib.Omega.{arith}
+use lib.ListN.{length}
+use Rattle.bigendian.specs.Words.{to_words}
 use Rattle.bigendian.proofs.Reading.{read_none, read_more, read_all}
 use Rattle.bigendian.proofs.cut_words.Goals as goal
 
-pub loop-i-preserved : goal.loop-i-preserved
-loop-i-preserved c = let l = c.loop-i in
-    read_more _ _ _ l.d l.at l.i c.end_of-end.result c.get.result (omega arith)
-    c.end_of-end.ensures
-    c.get.ensures l.invariant
+pub loop-word-init : goal.loop-word-init
+loop-word-init c = read_none _ _ _ _ (omega arith)
+
+pub loop-word-preserved : goal.loop-word-preserved
+loop-word-preserved c = let l = c.loop-word in
+    read_more _ _ _ l.d l.at l.word-index _ _ (omega arith) c.end_of-end.ensures c.get.ensures l.invariant
 
 pub returns : goal.returns
-returns c = read_all _ _ _ _ _ _ c.loop-i-test.false c.loop-i.invariant
-
-pub loop-i-init : goal.loop-i-init
-loop-i-init c = read_none _ _ _
+unfolding to_words
+returns c = let l = c.loop-word in
+    let z : length c.args.d.now - l.word-index ≡ 0 = omega arith in
+    sym (append-nil l.d) ∙ read_all _ _ _ l.d l.at l.word-index [] (omega arith) (rw z) l.invariant

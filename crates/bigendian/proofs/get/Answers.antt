@@ -17,20 +17,18 @@ turn : (s : List ℕ) (i x : ℕ) → i < length s → get_or s i 0 < 256 → x 
 unfolding number
 turn s i x h b e = rw (add-one, take-suc s i 0, number_append) (omega arith)
 
-pub loop-i-init : goal.loop-i-init
+pub loop-b-init : goal.loop-b-init
 unfolding number
-loop-i-init c = (omega arith, refl)
+loop-b-init c = refl
 
 pub overflow_add-x : goal.overflow_add-x
-overflow_add-x c = omega (arith, c.shared_slice_known-in-loop-i-1.given c.loop-i.i)
+overflow_add-x c = omega (arith, c.from.ensures, c.type_inv.s c.loop-b.b-index)
 
-pub loop-i-preserved : goal.loop-i-preserved
-loop-i-preserved c = let l = c.loop-i in (
-  omega arith,
-  ap (λ (b : ℕ). l.x % 2 ^ 56 * 256 + b) c.wide.ensures
-      ∙ turn _ l.i l.x (omega arith) (c.shared_slice_known-in-loop-i-1.given l.i).fits l.invariant.1,
-)
+pub loop-b-preserved : goal.loop-b-preserved
+loop-b-preserved c = let l = c.loop-b in
+    ap (λ (b : ℕ). l.x % 2 ^ 56 * 256 + b) c.from.ensures
+    ∙ turn _ l.b-index l.x c.loop-b-test.true (c.type_inv.s l.b-index).fits l.invariant
 
 pub returns : goal.returns
-returns c = let l = c.loop-i in
-    l.invariant.1 ∙ ap (λ (bs : List ℕ). word64 (number bs)) (take_all l.i c.args.s.now (omega arith))
+returns c = let l = c.loop-b in
+    l.invariant ∙ ap (λ (bs : List ℕ). word64 (number bs)) (take_all l.b-index c.args.s.now (omega arith))

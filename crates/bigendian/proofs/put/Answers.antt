@@ -1,5 +1,5 @@
 -- `bigendian::put` meets its contract. It writes from the end: the invariant says that from i on stand the last bytes of x,
--- and that what is left of x is x without them. The measure is i.
+-- and that what is left of x is x without them.
 use mathlib.Core.Path.{◌≡◌, refl, sym, ◌∙◌}
 use mathlib.Core.List.{List}
 use Prim.Native.Nat.{ℕ, suc, ◌-◌, ◌/◌, ◌%◌, ◌^◌, ◌<◌}

@@ -1,5 +1,5 @@
 -- `bigendian::put` meets its contract. It writes from the end: the invariant says that from i on stand the last bytes of x,
--- and that what is left of x is x without them. The measure is i.
+-- and that what is left of x is x without them.
 use mathlib.Core.Path.{◌≡◌}
 use mathlib.Core.List.{List}
 use Prim.Native.Nat.{ℕ, ◌-◌, ◌/◌, ◌^◌, ◌≤◌}
@@ -15,6 +15,3 @@ pub record Filled (d₀ : List ℕ) (x : ℕ) (d : List ℕ) (rest i : ℕ) : Ty
 
 abbrev pub invariant-loop-i : goal.invariant-loop-i
 invariant-loop-i l = Filled l.initial.d l.x l.d l.rest l.i
-
-abbrev pub decreases-loop-i : goal.decreases-loop-i
-decreases-loop-i l = l.i

@@ -2,5 +2,5 @@
 use Rattle.calls.proofs.Judging.{laying-out}
 use Rattle.calls.proofs.lay_out.Goals as goal
 
-pub returns : goal.returns
-returns c = record { outcome = laying-out _ _ c.lay_out.ensures; lends = ((λ i. (c.slice_known-1.given i).fits), tt) }
+pub returns-clause-outcome : goal.returns-clause-outcome
+returns-clause-outcome c = laying-out _ _ c.lay_out.ensures

@@ -1,25 +1,24 @@
--- The invariant: x is the number of the first i digits. The measure is what is left of the slice. Assumes nothing.
-use mathlib.Core.Path.{◌∙◌}
-use native.Mathlib.Omega.{arith}
-use Rattle.hexlines.proofs.Scan.{no_number, empty-number, one_more, no-decimal, too_large, whole-number}
+-- Each return is a case of `number_from`. Assumes nothing.
+use Rattle.std.proofs.Common.{arith, rules, ◌∙◌}
+use Rattle.hexlines.proofs.Numbers.{empty_number, one_more, no_digit, no_decimal, too_large, whole_number}
 use Rattle.hexlines.proofs.decimal.Goals as goal
+use Rattle.hexlines.proofs.decimal.Goals.{then-d-gt9-via-then-d-gt9, then-d-gt9-via-else-d-gt9+then-x-gt1000000000000}
 
-pub returns-then-s-eq0 : goal.returns-then-s-eq0
-returns-then-s-eq0 c = empty-number _ c.if-s-eq0.true
+pub returns-then-is_empty : goal.returns-then-is_empty
+returns-then-is_empty c = empty_number _ (search rules)
+
+pub returns-in_err-d : goal.returns-in_err-d
+returns-in_err-d c = c.from_residual.ensures ∙ no_digit _ _ _ (omega arith) c.loop-c.invariant c.in_err-d.ensures
 
 pub returns-then-d-gt9 : goal.returns-then-d-gt9
-returns-then-d-gt9 c = no-decimal _ _ _ _ (omega arith) c.digit-d.ensures c.if-d-gt9.true c.loop-i.invariant
+returns-then-d-gt9 c = elim c.then-d-gt9.branch [
+  | then-d-gt9-via-then-d-gt9 w ↦ no_decimal _ _ _ (omega arith) c.loop-c.invariant _ c.in_ok-d.ensures w.if-d-gt9.true
+  | then-d-gt9-via-else-d-gt9+then-x-gt1000000000000 w ↦
+      too_large _ _ _ (omega arith) c.loop-c.invariant _ c.in_ok-d.ensures w.if-d-gt9.false w.if-x-gt1000000000000.true
+]
 
-pub returns-then-x-gt1000000000000 : goal.returns-then-x-gt1000000000000
-returns-then-x-gt1000000000000 c = too_large _ _ _ _ (omega arith) c.digit-d.ensures (omega arith) c.if-x-gt1000000000000.true
-    c.loop-i.invariant
-
-pub loop-i-preserved : goal.loop-i-preserved
-loop-i-preserved c = one_more _ _ _ _ (omega arith) (c.wide.ensures ∙ c.digit-d.ensures) (omega arith) (omega arith)
-    c.loop-i.invariant
+pub loop-c-preserved : goal.loop-c-preserved
+loop-c-preserved c = rw c.from.ensures (one_more _ _ _ _ (omega arith) c.in_ok-d.ensures (omega arith) (omega arith) c.loop-c.invariant)
 
 pub returns : goal.returns
-returns c = whole-number _ _ _ (omega arith) c.loop-i-test.false c.loop-i.invariant
-
-pub loop-i-init : goal.loop-i-init
-loop-i-init c = no_number _
+returns c = whole_number _ _ _ (search rules) (omega arith) c.loop-c.invariant

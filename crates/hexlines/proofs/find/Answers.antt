@@ -1,16 +1,13 @@
--- The invariant: the byte stands nowhere before i. The measure is what is left of the slice. Assumes nothing.
-use native.Mathlib.Omega.{arith}
-use Rattle.hexlines.proofs.Scan.{none_passed, one-passed, found, nowhere}
+-- The place is where the library's `position` finds the byte. Assumes nothing.
+use Rattle.std.proofs.Common.{rules, tests, eqb}
+use Rattle.std.proofs.lemmas.Iterator.{YieldsList-from_slice}
+use Rattle.std.proofs.lemmas.Iterator.Search.{position_from_yields_List}
+use Rattle.hexlines.proofs.Scan.{found}
 use Rattle.hexlines.proofs.find.Goals as goal
 
-pub returns-then-s-i : goal.returns-then-s-i
-returns-then-s-i c = found _ _ _ (omega arith) c.if-s-i.true c.loop-i.invariant
-
-pub loop-i-preserved : goal.loop-i-preserved
-loop-i-preserved c = one-passed _ _ _ (omega arith) c.if-s-i.false c.loop-i.invariant
-
 pub returns : goal.returns
-returns c = nowhere _ _ _ c.loop-i-test.false c.loop-i.invariant
-
-pub loop-i-init : goal.loop-i-init
-loop-i-init c = none_passed _ _
+returns c =
+    let ran = c.position.ensures.ran in
+    let at = position_from_yields_List (λ x. eqb x c.args.b) _ _ c.position.result ran (YieldsList-from_slice c.args.s.now cc)
+    (λ x b q k. search (rules, tests)) in
+    found _ _ _ _ at c.unwrap_or.ensures

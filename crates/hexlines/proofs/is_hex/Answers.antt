@@ -1,16 +1,21 @@
--- The invariant: the first i bytes are digits. The measure is what is left of the slice. Assumes nothing.
-use native.Mathlib.Omega.{arith}
-use Rattle.hexlines.proofs.Scan.{no-digits, one-digit, no_digit, all_digits_lem}
+-- All bytes are digits where the library's `all` says so. Assumes nothing.
+use Rattle.std.proofs.Common.{rules, tests}
+use Rattle.std.proofs.lemmas.Iterator.{YieldsList-from_slice}
+use Rattle.std.proofs.lemmas.Iterator.Search.{all_from_yields_List}
+use Rattle.std.specs.Option.{is_some}
+use Rattle.hexlines.specs.Digits.{digit_of, all_digits, is_hex}
 use Rattle.hexlines.proofs.is_hex.Goals as goal
 
-pub returns-then-digit-eq16 : goal.returns-then-digit-eq16
-returns-then-digit-eq16 c = no_digit _ _ _ (omega arith) c.digit.ensures c.if-digit-eq16.true c.loop-i.invariant
+pub returns-then-all : goal.returns-then-all
+unfolding is_hex all_digits
+returns-then-all c =
+    let all = all_from_yields_List (λ x. is_some (digit_of x)) _ _ c.all.result c.all.ensures.ran (YieldsList-from_slice c.args.s.now cc)
+    (λ x b q k. search (rules, tests)) in
+    simp (← all, c.if-all.true)
 
-pub loop-i-preserved : goal.loop-i-preserved
-loop-i-preserved c = one-digit _ _ _ (omega arith) c.digit.ensures c.if-digit-eq16.false c.loop-i.invariant
-
-pub returns : goal.returns
-returns c = all_digits_lem _ _ (omega arith) c.loop-i.invariant
-
-pub loop-i-init : goal.loop-i-init
-loop-i-init c = no-digits _
+pub returns-else-all : goal.returns-else-all
+unfolding is_hex all_digits
+returns-else-all c =
+    let all = all_from_yields_List (λ x. is_some (digit_of x)) _ _ c.all.result c.all.ensures.ran (YieldsList-from_slice c.args.s.now cc)
+    (λ x b q k. search (rules, tests)) in
+    simp (← all, c.if-all.false)

@@ -21,13 +21,13 @@ outer-long c = search rules
 
 -- the words of the bay put, the words are as many as before
 
-pub slice_bounds-put_words_front-start : goal.slice_bounds-put_words_front-start
-slice_bounds-put_words_front-start c = omega (arith, ap length c.put_words_front.ensures ∙ length-at_front _ _)
+pub slice_bounds-put_front-start : goal.slice_bounds-put_front-start
+slice_bounds-put_front-start c = omega (arith, ap length c.put_front.ensures ∙ length-at_front _ _)
 
 pub returns : goal.returns
 returns c = packed c.args.words.now c.args.keyed c.requires (inner-long (goal.at.returns c).After-slice_known-1)
     (outer-long (goal.at.returns c).After-slice_known-1) c.words_of-inner.ensures
-    c.put_words_front.ensures c.put_words_front-2.ensures
+    c.put_front.ensures c.put_front-2.ensures
 
 pub shape_of-words : goal.shape_of-words
 shape_of-words c = ap length (returns c) ∙ length-at_front (words_of _) _

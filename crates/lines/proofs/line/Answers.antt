@@ -6,5 +6,7 @@ use Rattle.lines.proofs.line.Goals as goal
 
 pub returns : goal.returns
 unfolding line_of ascii
-returns c = then _ _ _ _ (then _ _ _ _ c.verdict_word-at.ensures (renamed _ _ _ _ c.name.ensures.result_value c.append-end.ensures))
-    c.append.ensures
+returns c =
+    let word = renamed _ _ _ _ c.word.ensures c.append-at.ensures in
+    let name = renamed _ _ _ _ c.name.ensures.result_value c.append-end.ensures in
+    then _ _ _ _ (then _ _ _ _ word name) c.append.ensures

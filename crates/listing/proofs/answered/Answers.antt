@@ -1,31 +1,35 @@
--- `listing::answered` meets its contract: at each number, and at the others.
-use Prim.Native.Nat.{ℕ}
-use mathlib.Core.Path.{◌≡◌, sym, ap, ◌∙◌}
+-- `listing::answered` meets its contract: of what is done, of the two refusals that it names, and of any other.
+use mathlib.Core.Path.{◌≡◌}
 use borrow.Author.Tests.{ne_eqb}
+use Rattle.std.specs.Prelude.{Result, Err}
+use Rattle.answers.specs.declared.Refusal.{Refusal}
+use Rattle.answers.specs.Numbers.{refusal_number}
+use Rattle.answers.proofs.Outcome.{refusing-number, refusal-injective}
 use Rattle.listing.specs.declared.Reason.{Reason}
-use Rattle.listing.specs.declared.Step.{Step}
-use native.Mathlib.Omega.{arith}
 use Rattle.listing.specs.Rules.{answered}
 use Rattle.listing.proofs.answered.Goals as goal
 
-at : (n k m : ℕ) → n ≡ m → n ≡ k → answered k ≡ answered m
-at n k m e f = ap answered (sym f ∙ e)
-
-other : (n m : ℕ) → n ≡ m → (n ≡ 0 → ⊥) → (n ≡ 16 → ⊥) → (n ≡ 17 → ⊥) → Step.Refused Reason.Unfit ≡ answered m
+other : (r : Refusal) → (r ≡ Refusal.NameTaken → ⊥) → (r ≡ Refusal.ListFull → ⊥) →
+    ◌≡◌ {A = Result Unit Reason} (Err Reason.Unfit) (answered (refusal_number r))
 unfolding answered
-other n m e a b c = rw (← e, ne_eqb n 0 a, ne_eqb n 16 b, ne_eqb n 17 c)
+other r p q =
+    rw (
+      ne_eqb (refusal_number r) 0 (λ e. rw e at (refusing-number r)),
+      ne_eqb (refusal_number r) 16 (λ e. p (refusal-injective r Refusal.NameTaken e)),
+      ne_eqb (refusal_number r) 17 (λ e. q (refusal-injective r Refusal.ListFull e)),
+    )
 
-pub returns-in-0 : goal.returns-in-0
+pub returns-in-Ok : goal.returns-in-Ok
 unfolding answered
-returns-in-0 c = at _ 0 _ c.number.ensures c.in-0.is
+returns-in-Ok c = rw c.in-Ok.is
 
-pub returns-in-16 : goal.returns-in-16
+pub returns-in-NameTaken : goal.returns-in-NameTaken
 unfolding answered
-returns-in-16 c = at _ 16 _ c.number.ensures c.in-16.is
+returns-in-NameTaken c = rw (c.in-Err.is, c.in-NameTaken.is)
 
-pub returns-in-17 : goal.returns-in-17
+pub returns-in-ListFull : goal.returns-in-ListFull
 unfolding answered
-returns-in-17 c = at _ 17 _ c.number.ensures c.in-17.is
+returns-in-ListFull c = rw (c.in-Err.is, c.in-ListFull.is)
 
 pub returns-in_default : goal.returns-in_default
-returns-in_default c = other _ _ c.number.ensures (omega arith) (omega arith) (omega arith)
+returns-in_default c = rw c.in-Err.is (other c.in-Err.refusal c.in_default.not-NameTaken c.in_default.not-ListFull)

@@ -7,6 +7,8 @@ use Prim.Native.Nat.{ℕ, ◌+◌, ◌-◌, ◌*◌, ◌<◌, ◌≤◌}
 use native.Mathlib.Nat.{sub-zero}
 use native.Mathlib.Omega.{arith}
 use lib.ListN.{length, drop}
+use Rattle.std.specs.Prelude.{Result, Err}
+use Rattle.answers.specs.declared.Refusal.{Refusal}
 use Rattle.lists.specs.declared.Found.{Found}
 use Rattle.slices.specs.Tests.{same}
 use Rattle.lists.specs.Layout.{entries_at, entry_head, entry_size, names_at, edition_in, count_in, digest_size_in, name_length, read_pairs}
@@ -15,7 +17,7 @@ use Rattle.slices.specs.Parts.{part}
 use Rattle.lists.specs.Code.Rules.{entry_right}
 use Rattle.lists.proofs.ByRules.{accepted-header, accepted-entries}
 use Rattle.fips.proofs.Editions.{digest-short}
-use Rattle.lists.proofs.Places.{found, found_in, is_found}
+use Rattle.lists.proofs.Places.{found_here, not_listed, found, found_in, is_found}
 use Rattle.lists.proofs.Walk.{one_less, entries-on, entries-first, entry-fits, place-on, place-over}
 use Rattle.lists.proofs.find.Goals as goal
 use Rattle.lists.proofs.find.Goals.{After-digest_size-digest}
@@ -48,7 +50,7 @@ module _ (bs name : List ℕ) (count d at next i : ℕ) (f : Left bs name count 
 
   module _ (len : ℕ) (h : i < count) (p : len ≡ name_length (drop at bs)) (s : List ℕ) (q : s ≡ part bs next len) where
     decided : found bs name
-        ≡ cond (same s name) (Found.At (at + entry_head) d)
+        ≡ cond (same s name) (found_here (at + entry_head) d)
         (found_in name d (at + entry_size d) (read_pairs (count - (i + 1)) d (drop (at + entry_size d) bs) bs))
     decided = f.decides ∙ place-on count i d at next name f.last bs h len p (first-right h) ∙ rw q
 
@@ -62,13 +64,13 @@ module _ (bs name : List ℕ) (count d at next i : ℕ) (f : Left bs name count 
       decides = decided ∙ rw e;
     }
 
-    here : same s name ≡ true → Found.At (at + entry_head) d ≡ found bs name
+    here : same s name ≡ true → found_here (at + entry_head) d ≡ found bs name
     here e = sym (decided ∙ rw e)
 
-  nowhere : count ≤ i → Found.NotListed ≡ found bs name
+  nowhere : count ≤ i → not_listed ≡ found bs name
   nowhere h = sym (f.decides ∙ place-over count i d at name bs h)
 
-refuse : (bs name : List ℕ) → accepted bs ≡ false → Found.NotAList ≡ found bs name
+refuse : (bs name : List ℕ) → accepted bs ≡ false → ◌≡◌ {A = Result Found Refusal} (Err Refusal.NotAList) (found bs name)
 unfolding found
 refuse bs name e = rw e
 
@@ -85,37 +87,28 @@ within : (c : After-digest_size-digest) →
     names_at c.count-count.result c.digest_size-digest.result ≤ length c.args.list.now
 within c = names-inside _ _ _ (is_one c) c.count-count.ensures c.digest_size-digest.ensures
 
-pub loop-i-init : goal.loop-i-init
-loop-i-init c = start _ _ _ (is_one c) c.count-count.ensures c.digest_size-digest.ensures _
-
-pub name_length-len-requires : goal.name_length-len-requires
-name_length-len-requires c = omega (arith, space _ _ _ _ _ _ _ c.loop-i.invariant c.loop-i-test.true)
-
-pub overflow_add-start : goal.overflow_add-start
-overflow_add-start c = omega (arith, space _ _ _ _ _ _ _ c.loop-i.invariant c.loop-i-test.true)
-
-pub returns-then-same_bytes : goal.returns-then-same_bytes
-returns-then-same_bytes c = is_found _ _ _
-    (here _ _ _ _ _ _ _ c.loop-i.invariant _ c.loop-i-test.true c.name_length-len.ensures
-    _ c.part.ensures.result_value
-    (sym c.same_bytes.ensures ∙ c.if-same_bytes.true))
-
-pub loop-i-preserved : goal.loop-i-preserved
-loop-i-preserved c = turn _ _ _ _ _ _ _ c.loop-i.invariant _ c.loop-i-test.true c.name_length-len.ensures
-    _ c.part.ensures.result_value
-    (sym c.same_bytes.ensures ∙ c.if-same_bytes.false)
-
-pub returns : goal.returns
-returns c = is_found _ _ _ (nowhere _ _ _ _ _ _ _ c.loop-i.invariant c.loop-i-test.false)
-
 pub overflow_mul-next : goal.overflow_mul-next
 overflow_mul-next c = omega (arith, within c)
 
 pub overflow_add-next : goal.overflow_add-next
 overflow_add-next c = omega (arith, within c)
 
-pub overflow_add-next-in-loop-i : goal.overflow_add-next-in-loop-i
-overflow_add-next-in-loop-i c = omega (arith, loop-i-preserved c)
+pub loop-init : goal.loop-init
+loop-init c = start _ _ _ (is_one c) c.count-count.ensures c.digest_size-digest.ensures _
 
-pub overflow_add-at : goal.overflow_add-at
-overflow_add-at c = omega (arith, loop-i-preserved c)
+pub returns-then-same : goal.returns-then-same
+returns-then-same c = is_found _ _ _
+    (here _ _ _ _ _ _ _ c.loop.invariant _ c.loop-test.true c.name_length-len.ensures
+    _ c.part.ensures.result_value
+    (sym c.same.ensures ∙ c.if-same.true))
+
+pub loop-preserved : goal.loop-preserved
+loop-preserved c = turn _ _ _ _ _ _ _ c.loop.invariant _ c.loop-test.true c.name_length-len.ensures
+    _ c.part.ensures.result_value
+    (sym c.same.ensures ∙ c.if-same.false)
+
+pub overflow_add-next-in-loop : goal.overflow_add-next-in-loop
+overflow_add-next-in-loop c = omega (arith, loop-preserved c)
+
+pub returns : goal.returns
+returns c = is_found _ _ _ (nowhere _ _ _ _ _ _ _ c.loop.invariant c.loop-test.false)

@@ -18,8 +18,5 @@ pub record Left (bs name : List ℕ) (count d at next i : ℕ) : Type 0 where
   pub right : entries_right (count - i) (entry_size d) last next (drop at bs) bs ≡ true
   pub decides : found bs name ≡ found_in name d at (read_pairs (count - i) d (drop at bs) bs)
 
-abbrev pub invariant-loop-i : goal.invariant-loop-i
-invariant-loop-i l = Left l.list l.name l.count l.digest l.at l.next l.i
-
-abbrev pub decreases-loop-i : goal.decreases-loop-i
-decreases-loop-i l = l.count - l.i
+abbrev pub invariant-loop : goal.invariant-loop
+invariant-loop l = Left l.list l.name l.count l.digest l.at l.next l.counter

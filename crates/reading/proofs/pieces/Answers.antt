@@ -5,10 +5,10 @@ use Rattle.reading.proofs.pieces.Goals as goal
 pub loop-init : goal.loop-init
 loop-init g c = starts _
 
-pub returns-in-Ends : goal.returns-in-Ends
-returns-in-Ends g c =
+pub returns-in-Some : goal.returns-in-Some
+returns-in-Some g c =
     let is = c.turn.ensures in
-    stops _ c.loop.invariant _ is.bytes _ _ _ c.in-Ends.is is.value is.table_after
+    stops _ c.loop.invariant _ is.bytes _ _ _ c.in-Some.is is.value is.table_after
 
 pub loop-preserved : goal.loop-preserved
 loop-preserved g c =

@@ -1,13 +1,8 @@
 -- `records::record_length` meets its contract: a record has at most so many bytes as the longest. Assumes nothing.
-use Prim.Native.Nat.{◌+◌}
-use mathlib.Core.Path.{ap₂}
 use native.Mathlib.Omega.{arith}
 use Rattle.records.proofs.Written.{length_in-within}
 use Rattle.records.specs.Record.{newest}
 use Rattle.records.proofs.record_length.Goals as goal
 
 pub overflow_add-result : goal.overflow_add-result
-overflow_add-result c = omega (arith, c.tail_at.ensures, c.tail_length.ensures, length_in-within newest c.args.half)
-
-pub returns : goal.returns
-returns c = ap₂ ◌+◌ c.tail_at.ensures c.tail_length.ensures
+overflow_add-result c = omega (arith, c.tail_at.ensures, c.tail_length.ensures, length_in-within newest c.args.half.now)

@@ -1,13 +1,12 @@
 -- A file through a bay, call by call and piece by piece: SPEC, "The program". `begun`, `after_piece` and `left_by` are what is left of the
 -- table, `fits` and `ends_as` what is answered. That the calls give the verdict of `Report` is the theorem `file-verdict`.
-use Rattle.std.specs.Prelude.{ℕ, Bool, cond, ◌&&◌, List, [], ◌∷◌, ◌++◌, ◌≡◌, eqb, take, replicate}
+use Rattle.std.specs.Prelude.{ℕ, Bool, cond, ◌&&◌, List, [], ◌∷◌, ◌++◌, ◌≡◌, Option, None, Some, eqb, take, replicate}
 use Rattle.slices.specs.Below.{Bytes}
 use Rattle.fips.specs.Editions.{digest_bytes}
 use Rattle.slices.specs.Tests.{same}
 use Rattle.calls.specs.Calls.{lay_out, opening, adding, closing, Ran, run}
 use Rattle.report.specs.declared.Brought.{Brought}
 use Rattle.report.specs.declared.Ending.{Ending}
-use Rattle.report.specs.declared.Turn.{Turn}
 use Rattle.lines.specs.declared.Verdict.{Verdict}
 
 -- one empty bay, and in it a message of the edition
@@ -20,12 +19,12 @@ fits t piece = eqb (run t (adding 0 piece)).seen.answer 0
 unfoldable pub after_piece : List ℕ → List ℕ → List ℕ
 after_piece t piece = (run t (adding 0 piece)).table
 
--- what is seen to after a read that brought this piece, or no bytes; and what that leaves
-unfoldable pub turn_of : List ℕ → List ℕ → Brought → Turn
-turn_of t piece Brought.Bytes = cond (fits t piece) Turn.GoesOn (Turn.Ends Ending.TooLong)
-turn_of t piece Brought.End = Turn.Ends Ending.Whole
-turn_of t piece Brought.Again = Turn.GoesOn
-turn_of t piece (Brought.Nothing why) = Turn.Ends (Ending.Unread why)
+-- what is seen to after a read that brought this piece, or no bytes: how reading ends, where it ends; and what that leaves
+unfoldable pub turn_of : List ℕ → List ℕ → Brought → Option Ending
+turn_of t piece Brought.Bytes = cond (fits t piece) None (Some Ending.TooLong)
+turn_of t piece Brought.End = Some Ending.Whole
+turn_of t piece Brought.Again = None
+turn_of t piece (Brought.Nothing why) = Some (Ending.Unread why)
 
 unfoldable pub after_turn : List ℕ → List ℕ → Brought → List ℕ
 after_turn t piece Brought.Bytes = after_piece t piece

@@ -1,40 +1,23 @@
 -- `streamwords::add` meets its contract: too few words are refused, then the stream decides, and what it is then is packed. Assumes
 -- nothing.
-use mathlib.Core.Path.{refl}
-use borrow.Author.Tests.{lt-ltb}
-use Rattle.answers.specs.Judged.{first}
-use Rattle.answers.proofs.Outcome.{refused}
-use Rattle.answers.proofs.Refusals.{not_done}
-use Rattle.streamwords.specs.Words.{stream_words}
-use Rattle.streamwords.specs.Calls.{add_tests, LendsPiece}
-use Rattle.streamwords.proofs.Judging.{add-refused, add_done}
+use mathlib.Core.Path.{◌∙◌}
+use Rattle.streamwords.specs.Calls.{add_tests}
+use Rattle.streamwords.proofs.Judging.{too_few, add-refused, add_done}
+use Rattle.answers.proofs.Refusals.{passed-keeps}
 use Rattle.streamwords.proofs.add.Goals as goal
-use Rattle.streamwords.proofs.add.Goals.{After-shared_slice_known-1}
 
--- what ownership knows
+pub returns-in_err-held-clause-adds : goal.returns-in_err-held-clause-adds
+unfolding add_tests
+returns-in_err-held-clause-adds c =
+    passed-keeps c.from_residual.result _ c.from_residual.ensures.1 (too_few _ _ c.in_err-held.ensures)
 
-lends : (c : After-shared_slice_known-1) → LendsPiece c.args.words.now c.args.piece.now
-lends c = ((λ i. (c.slice_known-1.given i).fits), (λ i. (c.shared_slice_known-1.given i).fits))
+pub returns-in_err-stream-clause-adds : goal.returns-in_err-stream-clause-adds
+returns-in_err-stream-clause-adds c =
+    let held = c.in_ok-held.ensures in
+    let r = c.from_residual-in_err-stream in
+    add-refused _ held.0 _ (c.unpack.ensures ∙ held.1) r.result _ r.ensures.1 c.in_err-stream.ensures.judged
 
-pub returns-then-words-lt-WORDS : goal.returns-then-words-lt-WORDS
-unfolding add_tests first
-returns-then-words-lt-WORDS c = record {
-  adds = refused (rw (lt-ltb _ stream_words c.if-words-lt-WORDS.true)) tt refl;
-  lends_piece =
-      lends (goal.at.returns-then-words-lt-WORDS c).After-shared_slice_known-1;
-}
-
-pub returns-in_default : goal.returns-in_default
-returns-in_default c =
-    record {
-      adds = add-refused _ c.if-words-lt-WORDS.false _ c.unpack.ensures c.add-added.ensures.judged
-          (not_done c.add-added.result.answer c.in_default.not-Done);
-      lends_piece =
-          lends (goal.at.returns-in_default c).After-shared_slice_known-1;
-    }
-
-pub returns : goal.returns
-returns c = record {
-  adds = add_done _ c.if-words-lt-WORDS.false _ c.unpack.ensures c.add-added.ensures.judged c.in-Done.is c.pack.ensures;
-  lends_piece = lends (goal.at.returns c).After-shared_slice_known-1;
-}
+pub returns-clause-adds : goal.returns-clause-adds
+returns-clause-adds c =
+    let held = c.in_ok-held.ensures in
+    add_done _ held.0 _ (c.unpack.ensures ∙ held.1) c.in_ok-stream.ensures.judged c.pack.ensures

@@ -1,16 +1,13 @@
 -- `streamwords::root` meets its contract: too few words are refused, and then the stream decides. Assumes nothing.
-use mathlib.Core.Path.{refl}
-use borrow.Author.Tests.{lt-ltb}
-use Rattle.answers.specs.Judged.{first}
-use Rattle.answers.proofs.Outcome.{refused}
-use Rattle.streamwords.specs.Words.{stream_words}
+use mathlib.Core.Path.{◌∙◌}
 use Rattle.streamwords.specs.Calls.{root_tests}
-use Rattle.streamwords.proofs.Judging.{root-judged}
+use Rattle.streamwords.proofs.Judging.{too_few, root-judged}
+use Rattle.answers.proofs.Refusals.{passed-keeps}
 use Rattle.streamwords.proofs.root.Goals as goal
 
-pub returns-then-words-lt-WORDS : goal.returns-then-words-lt-WORDS
-unfolding root_tests first
-returns-then-words-lt-WORDS c = refused (rw (lt-ltb _ stream_words c.if-words-lt-WORDS.true)) tt refl
+pub returns-in_err-held : goal.returns-in_err-held
+unfolding root_tests
+returns-in_err-held c = passed-keeps c.from_residual.result _ c.from_residual.ensures.1 (too_few _ _ c.in_err-held.ensures)
 
 pub returns : goal.returns
-returns c = root-judged _ c.if-words-lt-WORDS.false _ c.unpack.ensures c.root.ensures.judged
+returns c = root-judged _ c.in_ok-held.ensures.0 _ (c.unpack.ensures ∙ c.in_ok-held.ensures.1) c.root.ensures.judged

@@ -6,7 +6,7 @@ use Prim.Native.Nat.{ℕ, ◌+◌, ◌^◌, ◌<◌, ◌≤◌}
 use native.Mathlib.Nat.{min-le_right}
 use native.Mathlib.Omega.{arith}
 use borrow.Author.Rules.{rules}
-use borrow.Author.Tests.{not-true, not-false, eq-eqb, ne_eqb, le-leb, lt-leb, lt-ltb}
+use borrow.Author.Tests.{eq-eqb, ne_eqb, le-leb, lt-leb, lt-ltb}
 use lib.ListN.{length, drop, length-take}
 use Rattle.answers.specs.Judged.{first}
 use Rattle.bigendian.specs.Rows.{field_in}
@@ -22,7 +22,7 @@ use Rattle.writer.specs.Writing.{front_list, put_tests}
 use Rattle.writer.proofs.Fronts.{CanPut, put-done}
 use Rattle.writer.proofs.refusal.Goals as goal
 use Rattle.writer.proofs.refusal.Goals.{After-count, After-digest_size-size, After-front-list, Else-digest-size, Else-not-allowed}
-use Rattle.writer.proofs.refusal.Goals.{Else-not-place, Else-place}
+use Rattle.writer.proofs.refusal.Goals.{Else-place}
 
 -- ---- which test refuses
 
@@ -32,10 +32,6 @@ module _ (b name digest : List ℕ) where
 
   abbrev Refuses : ℕ → Type 0
   Refuses n = n ≡ first (put_tests b name digest)
-
-  no-list : accepted bs ≡ false → Refuses 12
-  unfolding put_tests first
-  no-list e = rw e
 
   module _ (l : accepted bs ≡ true) where
     forbidden : name_allowed name ≡ false → Refuses 15
@@ -87,17 +83,8 @@ count-told bs = length-read_pairs (count_in bs) (digest_size_in bs) (drop entrie
 
 -- ---- what each place of the code has found
 
--- the earlier places, from those behind the first, the second and the third test
-
-placed : (c : After-front-list) →
-    let p = c.args.place in Placed (front_list c.args.buffer.now) c.args.name.now p.accepted p.earlier p.listed
-placed c = c.requires
-
-is-list : (c : Else-not-place) → accepted (front_list c.args.buffer.now) ≡ true
-is-list c =
-    let placed' : let p = c.args.place in Placed (front_list c.args.buffer.now) c.args.name.now p.accepted p.earlier p.listed =
-    c.requires in
-    sym (placed').judged ∙ not-false _ c.if-not-place.false
+is-list : (c : After-front-list) → accepted (front_list c.args.buffer.now) ≡ true
+is-list c = sym c.requires.judged
 
 named : (c : Else-not-allowed) → name_allowed (c.args.name.now) ≡ true
 named c = sym c.allowed.ensures ∙ c.if-not-allowed.false
@@ -113,11 +100,7 @@ sized c =
 
 new : (c : Else-place) →
     listed c.args.name.now (read_list (front_list c.args.buffer.now)).pairs ≡ false
-new c =
-    let placed' : let p = c.args.place in Placed (front_list c.args.buffer.now) c.args.name.now p.accepted p.earlier p.listed =
-    c.requires in
-    let is-list' : accepted (front_list c.args.buffer.now) ≡ true = sym (placed').judged ∙ not-false _ c.if-not-place.false in
-    listed-told _ _ (placed') (is-list') ∙ c.if-place.false
+new c = listed-told _ _ c.requires (sym c.requires.judged) ∙ c.if-place.false
 
 counted : (c : After-count) →
     length (read_list (front_list c.args.buffer.now)).pairs ≡ c.count.result
@@ -129,27 +112,22 @@ front_length c = ap length c.front-list.ensures
 
 -- ---- the needs
 
-pub returns-then-not-place : goal.returns-then-not-place
-returns-then-not-place c = no-list _ _ _ (sym (placed (goal.at.returns-then-not-place c).After-front-list).judged
-    ∙ not-true _ c.if-not-place.true)
-
 pub returns-then-not-allowed : goal.returns-then-not-allowed
-returns-then-not-allowed c = forbidden _ _ _ (is-list (goal.at.returns-then-not-allowed c).Else-not-place)
+returns-then-not-allowed c = forbidden _ _ _ (is-list (goal.at.returns-then-not-allowed c).After-front-list)
     (sym c.allowed.ensures ∙ c.if-not-allowed.true)
 
 pub returns-then-digest-size : goal.returns-then-digest-size
-returns-then-digest-size c = other-size _ _ _ (is-list (goal.at.returns-then-digest-size c).Else-not-place)
+returns-then-digest-size c = other-size _ _ _ (is-list (goal.at.returns-then-digest-size c).After-front-list)
     (named (goal.at.returns-then-digest-size c).Else-not-allowed)
     (λ q. c.if-digest-size.true (q ∙ sym (size-told (goal.at.returns-then-digest-size c).After-digest_size-size)))
 
 pub returns-then-place : goal.returns-then-place
-returns-then-place c = name-taken _ _ _ (is-list (goal.at.returns-then-place c).Else-not-place)
+returns-then-place c = name-taken _ _ _ (is-list (goal.at.returns-then-place c).After-front-list)
     (named (goal.at.returns-then-place c).Else-not-allowed) (sized (goal.at.returns-then-place c).Else-digest-size)
-    (listed-told _ _ (placed (goal.at.returns-then-place c).After-front-list) (is-list (goal.at.returns-then-place c).Else-not-place)
-    ∙ c.if-place.true)
+    (listed-told _ _ c.requires (sym c.requires.judged) ∙ c.if-place.true)
 
 pub returns-then-count-ge-MOST_ENTRIES : goal.returns-then-count-ge-MOST_ENTRIES
-returns-then-count-ge-MOST_ENTRIES c = full _ _ _ (is-list (goal.at.returns-then-count-ge-MOST_ENTRIES c).Else-not-place)
+returns-then-count-ge-MOST_ENTRIES c = full _ _ _ (is-list (goal.at.returns-then-count-ge-MOST_ENTRIES c).After-front-list)
     (named (goal.at.returns-then-count-ge-MOST_ENTRIES c).Else-not-allowed)
     (sized (goal.at.returns-then-count-ge-MOST_ENTRIES c).Else-digest-size) (new (goal.at.returns-then-count-ge-MOST_ENTRIES c).Else-place)
     (omega (arith, counted (goal.at.returns-then-count-ge-MOST_ENTRIES c).After-count, c.if-count-ge-MOST_ENTRIES.true))
@@ -165,7 +143,7 @@ overflow_add-digest-2 c =
     }
 
 pub returns-then-buffer-list : goal.returns-then-buffer-list
-returns-then-buffer-list c = no_room _ _ _ (is-list (goal.at.returns-then-buffer-list c).Else-not-place)
+returns-then-buffer-list c = no_room _ _ _ (is-list (goal.at.returns-then-buffer-list c).After-front-list)
     (named (goal.at.returns-then-buffer-list c).Else-not-allowed) (sized (goal.at.returns-then-buffer-list c).Else-digest-size)
     (new (goal.at.returns-then-buffer-list c).Else-place)
     (omega (arith, counted (goal.at.returns-then-buffer-list c).After-count, c.if-count-ge-MOST_ENTRIES.false))
@@ -178,7 +156,7 @@ returns-then-buffer-list c = no_room _ _ _ (is-list (goal.at.returns-then-buffer
 
 pub returns : goal.returns
 returns c = let t : CanPut c.args.buffer.now c.args.name.now c.args.digest.now = record {
-  is_list = is-list (goal.at.returns c).Else-not-place;
+  is_list = is-list (goal.at.returns c).After-front-list;
   named = named (goal.at.returns c).Else-not-allowed;
   sized = sized (goal.at.returns c).Else-digest-size;
   new = new (goal.at.returns c).Else-place;

@@ -22,5 +22,5 @@ slice_bounds-put-end c =
 
 pub returns : goal.returns
 returns c =
-    closes _ _ _ _ _ _ _ _ c.close.ensures.outcome c.number.ensures c.if-number-ne0.false c.digest_bytes-size.ensures
+    closes _ _ _ _ _ _ _ _ c.close.ensures.outcome (sym c.in_ok-map_err.ensures.variant) c.digest_bytes-size.ensures
     c.edition.ensures c.put.ensures.puts c.answered.ensures

@@ -6,5 +6,5 @@ use Rattle.bays.proofs.bay.unpack.Goals as goal
 
 pub returns : goal.returns
 returns c = sym
-    (unpacked c.args.bay.now _ _ _ _ c.requires (search rules) (search rules) c.put_words_front.ensures
+    (unpacked c.args.bay.now _ _ _ _ c.told-bay (search rules) (search rules) c.put_front.ensures
     c.put_words.ensures)

@@ -1,19 +1,16 @@
--- `bays::in_place::clear_at` meets its contract: it puts the blank message, whose words are an empty bay's. Assumes nothing.
-use mathlib.Core.List.{List}
-use mathlib.Core.Path.{ap, ◌∙◌}
+-- `bays::in_place::clear_at` meets its contract: past the gate zeros are put where the bay lies. Assumes nothing.
 use Prim.Native.Nat.{ℕ}
-use Rattle.answers.specs.Judged.{first, after}
-use Rattle.halfread.specs.declared.HalfRead.{HalfRead}
+use mathlib.Core.Path.{sym, ap, ◌∙◌}
+use lib.ListN.{replicate}
 use Rattle.bays.specs.Table.{put_bay}
-use Rattle.bays.specs.Bay.{bay_of}
-use Rattle.bays.specs.Gate.{gate_tests}
-use Rattle.bays.proofs.Packing.{bay_of-blank}
+use Rattle.bays.proofs.Frames.{bay-back, length-bay}
+use Rattle.bays.proofs.Header.{gate-writes}
 use Rattle.bays.proofs.in_place.clear_at.Goals as goal
 
 pub returns : goal.returns
 returns c = let t = c.args.table.now in
-    let i = c.args.bay in
-    let put : List ℕ → List ℕ = λ b. after (first (gate_tests t i)) t (put_bay t i b) in
-    c.put_at.ensures
-    ∙ ap (λ (h : HalfRead). put (bay_of h)) c.blank.ensures
-    ∙ ap put bay_of-blank
+    let place = c.in-Ok.ensures.value in
+    bay-back t c.clear.new.words c.args.bay _ place.0
+    ∙ ap (put_bay t c.args.bay)
+    (c.clear.ensures ∙ ap (λ (n : ℕ). replicate {A = ℕ} n 0) (length-bay t c.args.bay _ place.0 place.1))
+    ∙ sym (gate-writes t c.args.bay (sym c.in-Ok.ensures.answer))

@@ -1,39 +1,23 @@
 -- `bays::in_place::gate_free` meets its contract: past the gate an empty bay is free, a sound one taken. Assumes nothing.
-use mathlib.Core.Path.{◌≡◌, sym, ap, ◌∙◌}
-use Rattle.answers.specs.Judged.{first}
-use Rattle.answers.specs.Numbers.{number_of}
-use Rattle.answers.proofs.Refusals.{not_done}
-use Rattle.bays.proofs.Header.{gate-stops, gate-opens, gate-passed}
-use Rattle.bays.specs.Gate.{gate_tests}
-use Rattle.bays.proofs.Refusals.{first-free, first_taken, first-unsound}
+use mathlib.Core.Path.{sym, ap, ◌∙◌}
 use Rattle.halfread.specs.State.{sound}
+use Rattle.bays.specs.Bay.{half_of}
+use Rattle.bays.proofs.Refusals.{gate-refused, zero-empty, free-empty, free_taken, free-unsound}
 use Rattle.bays.proofs.in_place.gate_free.Goals as goal
-use Rattle.bays.proofs.in_place.gate_free.Goals.{In-Done}
 
-pub returns-in_default : goal.returns-in_default
-returns-in_default c = gate-stops _ _ _ c.gate-passed.ensures (not_done c.gate-passed.result c.in_default.not-Done)
+pub returns-in_err-words : goal.returns-in_err-words
+returns-in_err-words c = gate-refused _ _ _ c.from_residual.result _ c.from_residual.ensures.1 c.in_err-words.ensures.answer
 
-gated : (c : In-Done) → first (gate_tests c.args.table.now c.args.bay) ≡ 0
-gated c = sym c.gate-passed.ensures ∙ ap number_of c.in-Done.is
-
-pub returns-then-empty_at : goal.returns-then-empty_at
-returns-then-empty_at c = gate-opens _ _ _ (gated (goal.at.returns-then-empty_at c).In-Done)
-    (sym (first-free _ (sym c.empty_at.ensures ∙ c.if-empty_at.true)))
+pub returns-then-all_are : goal.returns-then-all_are
+returns-then-all_are c = let w = c.in_ok-words.ensures in
+    free-empty _ _ w.answer (zero-empty _ _ w.value c.if-all_are.ensures)
 
 pub returns-then-is_sound : goal.returns-then-is_sound
-returns-then-is_sound c = gate-opens _ _ _ (gated (goal.at.returns-then-is_sound c).In-Done)
-    (sym
-    (first_taken _ (sym c.empty_at.ensures ∙ c.if-empty_at.false)
-    (sym (c.is_sound.ensures ∙ ap sound c.half_at.ensures) ∙ c.if-is_sound.true)))
+returns-then-is_sound c = let w = c.in_ok-words.ensures in
+    free_taken _ _ w.answer (zero-empty _ _ w.value c.if-all_are.ensures)
+    (sym (c.if-is_sound.ensures ∙ ap sound (c.unpack.ensures ∙ ap half_of w.value)))
 
 pub returns : goal.returns
-returns c = gate-opens _ _ _ (gated (goal.at.returns c).In-Done)
-    (sym
-    (first-unsound _ (sym c.empty_at.ensures ∙ c.if-empty_at.false)
-    (sym (c.is_sound.ensures ∙ ap sound c.half_at.ensures) ∙ c.if-is_sound.false)))
-
-pub empty_at-requires : goal.empty_at-requires
-empty_at-requires c = (gate-passed _ _ (gated c)).whole
-
-pub half_at-requires : goal.half_at-requires
-half_at-requires c = (gate-passed _ _ (gated (goal.at.half_at-requires c).In-Done)).whole
+returns c = let w = c.in_ok-words.ensures in
+    free-unsound _ _ w.answer (zero-empty _ _ w.value c.if-all_are.ensures)
+    (sym (c.if-is_sound.ensures ∙ ap sound (c.unpack.ensures ∙ ap half_of w.value)))

@@ -1,11 +1,11 @@
 -- `bays::table::lay_out` meets its contract: no room, or the header and zeros behind it. Assumes nothing.
 use mathlib.Core.Bool.{true}
-use mathlib.Core.Path.{◌≡◌, refl, sym, ap, ◌∙◌}
+use mathlib.Core.Path.{◌≡◌, refl, sym, ◌∙◌}
 use native.Mathlib.Omega.{arith}
 use lib.ListN.{length, length-set}
 use Rattle.bays.specs.Table.{room_for}
 use Rattle.bays.proofs.Frames.{Room, room_of}
-use Rattle.bays.proofs.LaidOut.{length-laid_out, laid_out_lem}
+use Rattle.bays.proofs.LaidOut.{laid_out_lem}
 use Rattle.answers.specs.Judged.{first}
 use Rattle.answers.proofs.Outcome.{refused, done}
 use Rattle.bays.proofs.table.lay_out.Goals as goal
@@ -29,11 +29,6 @@ unfolding first
 returns c = let k = c.clear in
     done (rw (roomy (goal.at.returns c).Else-not-room_for))
     (laid_out_lem c.args.table.now c.args.bays (room (goal.at.returns c).Else-not-room_for).within k.new.words k.ensures)
-
-pub shape_of-table : goal.shape_of-table
-shape_of-table c = let k = c.clear in
-    ap length (laid_out_lem c.args.table.now c.args.bays (room (goal.at.shape_of-table c).Else-not-room_for).within k.new.words k.ensures)
-    ∙ length-laid_out c.args.bays c.args.table.now (room (goal.at.shape_of-table c).Else-not-room_for).within
 
 pub overflow_mul-end : goal.overflow_mul-end
 overflow_mul-end c = omega (arith, room c)

@@ -1,14 +1,15 @@
 -- `bigendian::rows::put_row` meets its contract. The invariant: what is to be there in the end is what stands in front of `at`, and what
--- the sizes and values from i on make of the rest. The measure is the number of fields that are left.
+-- the sizes and values that are left make of the rest.
+use mathlib.Core.Logic.{◌⊎◌, inl, inr}
 use mathlib.Core.Path.{◌≡◌, refl, sym, ◌∙◌, ap}
 use mathlib.Core.List.{List, [], ◌∷◌, ◌++◌, append_assoc}
-use Prim.Native.Nat.{ℕ, zero, suc, ◌+◌, ◌-◌, ◌<◌, ◌≤◌, min}
+use Prim.Native.Nat.{ℕ, ◌+◌, ◌-◌, ◌<◌, ◌≤◌}
 use native.Mathlib.Nat.{add-sub_cancel_left}
-use native.Mathlib.Numerals.{add-one}
 use native.Mathlib.Omega.{arith}
-use lib.ListN.{length, get_or, take, drop, length-append, length-take, length-drop, take-append-drop}
-use lib.Seq.{take_at, drop_at, drop-cons, drop-nil}
+use lib.ListN.{length, take, drop, length-append, length-take, length-drop, take-append-drop}
+use lib.Seq.{take_at, drop_at}
 use borrow.Author.Tests.{lt-ltb, le-ltb}
+use Rattle.std.proofs.lemmas.Slice.Zip.{either_empty_from_Zip}
 use Rattle.bigendian.specs.BigEndian.{be}
 use Rattle.bigendian.specs.Code.PutRow.{put_row}
 use Rattle.bigendian.proofs.BigEndian.{length-be}
@@ -17,80 +18,73 @@ use Rattle.bigendian.proofs.rows.put_row.Invariants.{Written}
 
 -- ---- the definition, step by step
 
-put_full : (ns xs bs : List ℕ) (i : ℕ) → i < length ns → i < length xs → length bs < get_or ns i 0 →
-    put_row (drop i ns) (drop i xs) bs ≡ bs
+put_full : (n x : ℕ) (ns xs bs : List ℕ) → length bs < n → put_row (n ∷ ns) (x ∷ xs) bs ≡ bs
 unfolding put_row
-put_full ns xs bs i h k full = rw (drop-cons ns i 0 h, drop-cons xs i 0 k, lt-ltb (length bs) (get_or ns i 0) full)
+put_full n x ns xs bs full = rw (lt-ltb (length bs) n full)
 
-put-more : (ns xs bs : List ℕ) (i : ℕ) → i < length ns → i < length xs → get_or ns i 0 ≤ length bs →
-    put_row (drop i ns) (drop i xs) bs
-    ≡ be (get_or ns i 0) (get_or xs i 0) ++ put_row (drop (suc i) ns) (drop (suc i) xs) (drop (get_or ns i 0) bs)
+put-more : (n x : ℕ) (ns xs bs : List ℕ) → n ≤ length bs → put_row (n ∷ ns) (x ∷ xs) bs ≡ be n x ++ put_row ns xs (drop n bs)
 unfolding put_row
-put-more ns xs bs i h k room = rw (drop-cons ns i 0 h, drop-cons xs i 0 k, le-ltb (length bs) (get_or ns i 0) room)
+put-more n x ns xs bs room = rw (le-ltb (length bs) n room)
 
-put-none : (ns bs : List ℕ) → put_row ns [] bs ≡ bs
+put-end : (ns xs bs : List ℕ) → (ns ≡ []) ⊎ (xs ≡ []) → put_row ns xs bs ≡ bs
 unfolding put_row
-put-none [] bs = refl
-put-none (n ∷ ns) bs = refl
-
-put-end : (ns xs bs : List ℕ) (i : ℕ) → min (length ns) (length xs) ≤ i → put_row (drop i ns) (drop i xs) bs ≡ bs
-unfolding put_row
-put-end [] xs bs i h = rw (drop-nil {A = ℕ} i)
-put-end (n ∷ ns) [] bs i h = rw (drop-nil {A = ℕ} i) (put-none (drop i (n ∷ ns)) bs)
-put-end (n ∷ ns) (x ∷ xs) bs zero h = absurd (omega arith)
-put-end (n ∷ ns) (x ∷ xs) bs (suc i) h = put-end ns xs bs i (omega arith)
+put-end ns xs bs (inl e) = rw e
+put-end [] xs bs (inr e) = refl
+put-end (n ∷ ns) xs bs (inr e) = rw e
 
 -- ---- the loop
 
-start : (d₀ ns xs : List ℕ) → Written d₀ ns xs d₀ 0 0
-start d₀ ns xs = record { size = refl; within = omega arith; all = refl }
+start : (ns xs d : List ℕ) → Written (put_row ns xs d) ns xs d 0
+start ns xs d = record { within = omega arith; all = refl }
 
-module _ (d₀ ns xs d : List ℕ) (at i : ℕ) (w : Written d₀ ns xs d at i) where
+-- no field more
+whole : (w ns xs d : List ℕ) (at : ℕ) → Written w ns xs d at → (ns ≡ []) ⊎ (xs ≡ []) → d ≡ w
+whole w ns xs d at f none = sym (f.all ∙ rw (put-end ns xs (drop at d) none) (take-append-drop at d))
+
+module _ (w ns xs d : List ℕ) (at n x : ℕ) (f : Written w (n ∷ ns) (x ∷ xs) d at) where
   -- no room for the next field
-  full : i < min (length ns) (length xs) → length d - at < get_or ns i 0 → d ≡ put_row ns xs d₀
-  full h p =
-      let q : length (drop at d) < get_or ns i 0 = simp length-drop p in
-      sym (w.all ∙ rw (put_full ns xs (drop at d) i (omega arith) (omega arith) q) (take-append-drop at d))
-
-  -- no field more
-  whole : min (length ns) (length xs) ≤ i → d ≡ put_row ns xs d₀
-  whole h = sym (w.all ∙ rw (put-end ns xs (drop at d) i h) (take-append-drop at d))
+  full : length d - at < n → d ≡ w
+  full p =
+      let q : length (drop at d) < n = simp length-drop p in
+      sym (f.all ∙ rw (put_full n x ns xs (drop at d) q) (take-append-drop at d))
 
   -- one field more
-  turn : (n : ℕ) (ys : List ℕ) → i < min (length ns) (length xs) → n ≡ get_or ns i 0 → n ≤ length d - at →
-      ys ≡ be (length (take (at + n - at) (drop at d))) (get_or xs i 0) →
-      Written d₀ ns xs (take at d ++ (ys ++ drop (at + n - at) (drop at d))) (at + n) (i + 1)
-  turn n ys h is_n room e =
-      let x = get_or xs i 0 in
+  turn : (ys : List ℕ) → n ≤ length d - at → ys ≡ be (length (take (at + n - at) (drop at d))) x →
+      Written w ns xs (take at d ++ (ys ++ drop (at + n - at) (drop at d))) (at + n)
+  turn ys room e =
       let rest = drop n (drop at d) in
       let front = take at d ++ be n x in
-      let part : length (take (at + n - at) (drop at d)) ≡ n = simp (add-sub_cancel_left, length-take, length-drop) (omega arith) in
+      let part : length (take (at + n - at) (drop at d)) ≡ n =
+      simp (add-sub_cancel_left, length-take, length-drop) (omega (arith, f.within)) in
       let bytes : ys ≡ be n x = e ∙ ap (λ (k : ℕ). be k x) part in
       let drops = add-sub_cancel_left at n in
       let joined : take at d ++ (ys ++ drop (at + n - at) (drop at d)) ≡ front ++ rest = rw (bytes, drops, append_assoc) in
-      let long : length front ≡ at + n = simp (length-append, length-take, length-be) (omega arith) in
-      let room' : get_or ns i 0 ≤ length (drop at d) = simp length-drop (omega arith) in
-      let more = put-more ns xs (drop at d) i (omega arith) (omega arith) room' in
+      let long : length front ≡ at + n = simp (length-append, length-take, length-be) (omega (arith, f.within)) in
+      let more = put-more n x ns xs (drop at d) (simp length-drop room) in
       record {
-        size = ap length joined ∙ simp (length-append, length-take, length-be, length-drop) (omega arith);
-        within = rw joined (simp (length-append, length-take, length-be, length-drop) (omega arith));
-        all =
-            w.all
-            ∙ rw (joined, take_at front rest (at + n) long, drop_at front rest (at + n) long, more, ← is_n, add-one, append_assoc);
+        within = rw joined (simp (length-append, length-take, length-be, length-drop) (omega (arith, f.within)));
+        all = f.all ∙ rw (joined, take_at front rest (at + n) long, drop_at front rest (at + n) long, more, append_assoc);
       }
 
-pub returns-then-d-at : goal.returns-then-d-at
-returns-then-d-at c = let l = c.loop-i in
-    full _ _ _ l.d l.at l.i l.invariant (omega arith) (omega arith)
+pub loop-size-init : goal.loop-size-init
+loop-size-init c =
+    rw (
+      c.into_iter-size-iterator.ensures.into_iter_gives,
+      c.zip-size-items.ensures.first,
+      c.zip-size-items.ensures.second.0,
+      c.iter.ensures.rest,
+    )
+    (start _ _ _)
 
-pub loop-i-preserved : goal.loop-i-preserved
-loop-i-preserved c = let l = c.loop-i in
-    turn _ _ _ l.d l.at l.i l.invariant _ c.put.new.d (omega arith) refl (omega arith)
-    c.put.ensures
+pub loop-size-preserved : goal.loop-size-preserved
+loop-size-preserved c = let e = c.in-Some.ensures.steps in
+    turn _ _ _ _ _ _ _ (rw (e.0, e.1) at c.loop-size.invariant) c.put.new.d c.if-d-at.false c.put.ensures
+
+pub returns-then-d-at : goal.returns-then-d-at
+returns-then-d-at c = let e = c.in-Some.ensures.steps in
+    full _ _ _ _ _ _ _ (rw (e.0, e.1) at c.loop-size.invariant) c.if-d-at.true
 
 pub returns : goal.returns
-returns c = let l = c.loop-i in
-    whole _ _ _ l.d l.at l.i l.invariant (omega arith)
-
-pub loop-i-init : goal.loop-i-init
-loop-i-init c = start _ _ _
+returns c =
+    whole _ _ _ _ _ c.loop-size.invariant
+    (either_empty_from_Zip c.loop-size.size-iterator c.next.new.self _ c.in-None.is c.next.ensures.steps)

@@ -5,13 +5,13 @@ use Rattle.fips.proofs.Sizes.{sizes-known, sizes-unknown}
 use Rattle.fips.proofs.Editions.{edition-none}
 use Rattle.fips.proofs.lookup.digest_bytes.Goals as goal
 
-pub returns-in-Known : goal.returns-in-Known
-returns-in-Known c = let e = c.args.edition in
-    let told = c.in-Known.is in
+pub returns-in-Some : goal.returns-in-Some
+returns-in-Some c = let e = c.args.edition in
+    let told = c.in-Some.is in
     (sizes-known e c.sizes.ensures told).3
 
-pub returns-in-Unknown : goal.returns-in-Unknown
-returns-in-Unknown c = let e = c.args.edition in
+pub returns-in-None : goal.returns-in-None
+returns-in-None c = let e = c.args.edition in
     sym
     (ap (λ (x : Edition). x.digest_bytes)
-    (edition-none e (sizes-unknown e c.sizes.ensures c.in-Unknown.is)))
+    (edition-none e (sizes-unknown e c.sizes.ensures c.in-None.is)))

@@ -3,7 +3,7 @@ use mathlib.Core.Path.{◌≡◌, sym, ap}
 use Prim.Native.Nat.{ℕ}
 use mathlib.Core.Bool.{false}
 use native.Mathlib.Omega.{arith}
-use Rattle.fips.specs.declared.lookup.EditionSizes.{EditionSizes}
+use Rattle.std.specs.Prelude.{None}
 use Rattle.fips.specs.Editions.{editions, edition, known}
 use Rattle.fips.specs.Sizes.{sizes_number, sizes_told, Sized}
 use Rattle.fips.proofs.Editions.{unknown}
@@ -43,4 +43,4 @@ returns-in_default c =
     let e = c.args.edition in
     let none : known e ≡ false =
     unknown e (omega arith) (omega arith) (omega arith) (omega arith) (omega arith) (omega arith) in
-    is-sized e EditionSizes.Unknown (rw none)
+    is-sized e None (rw none)

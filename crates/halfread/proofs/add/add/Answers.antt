@@ -32,7 +32,7 @@ room c = sym c.too_long.ensures ∙ c.if-too_long.false
 
 pub returns : goal.returns
 unfolding add_tests first
-returns c = done (rw (is-sound (goal.at.returns c).Else-not-is_sound, room (goal.at.returns c).Else-too_long)) c.with_piece-next.ensures
+returns c = done (rw (is-sound (goal.at.returns c).Else-not-is_sound, room (goal.at.returns c).Else-too_long)) c.with_piece.ensures
 
-pub with_piece-next-requires : goal.with_piece-next-requires
-with_piece-next-requires c = (is-sound (goal.at.with_piece-next-requires c).Else-not-is_sound, room c)
+pub with_piece-requires : goal.with_piece-requires
+with_piece-requires c = (is-sound (goal.at.with_piece-requires c).Else-not-is_sound, room c)

@@ -5,7 +5,6 @@ use mathlib.Core.List.{List}
 use mathlib.Core.Path.{◌≡◌, refl, sym, ap, ◌∙◌}
 use native.Mathlib.Omega.{arith}
 use lib.ListN.{length, take}
-use lib.Seq.{length-take-le}
 use borrow.Author.Rules.{rules}
 use borrow.Author.Tests.{lt-ltb, le-ltb}
 use Rattle.answers.specs.Judged.{first}
@@ -18,7 +17,7 @@ use Rattle.halfread.specs.State.{tail_length, sound, tail_room}
 use Rattle.halfread.specs.Steps.{close_tests, closed_digest}
 use Rattle.halfread.proofs.Sizes.{rest-within}
 use Rattle.halfread.proofs.close.close.Goals as goal
-use Rattle.halfread.proofs.close.close.Goals.{After-words-1, Else-not-closing_fits, Else-not-is_sound}
+use Rattle.halfread.proofs.close.close.Goals.{Else-not-closing_fits, Else-not-is_sound}
 
 pub returns-then-not-is_sound : goal.returns-then-not-is_sound
 unfolding close_tests first
@@ -51,14 +50,11 @@ returns-then-out-digest_bytes c = refused
     ))
     tt refl
 
-pub slice_bounds-tail-end : goal.slice_bounds-tail-end
-slice_bounds-tail-end c = let h = c.args.half in
+pub shared_ref_as_front-finish : goal.shared_ref_as_front-finish
+shared_ref_as_front-finish c = let h = c.args.half in
     let long : length h.tail ≡ tail_room = search rules in
     let small : c.tail_length-end.result < tail_room = rest-within _ _ c.tail_length-end.ensures in
     omega arith
-
-pub slice_bounds-finish-end : goal.slice_bounds-finish-end
-slice_bounds-finish-end c = sym (length-take-le _ _ (slice_bounds-tail-end (goal.at.slice_bounds-finish-end c).After-words-1))
 
 is-closed : (h : HalfRead) (x b : ℕ) {n : ℕ} {H : List ℕ} → n ≡ tail_length h →
     H ≡ finished h.edition h.words h.count (take n h.tail) x b → digest_from h.edition H ≡ closed_digest h x b

@@ -8,7 +8,7 @@ use Rattle.halfread.proofs.Rules.{unsound, Kept, past-rule, begun-rule, zero-rul
 use Rattle.halfread.proofs.Sizes.{rest-within}
 use Rattle.halfread.specs.State.{tail_room}
 use Rattle.halfread.proofs.sound.is_sound.Goals as goal
-use Rattle.halfread.proofs.sound.is_sound.Goals.{After-tail_length-from, Else-not-bytes_zero}
+use Rattle.halfread.proofs.sound.is_sound.Goals.{After-tail_length-from, Else-not-all_are}
 
 pub returns-then-not-known : goal.returns-then-not-known
 returns-then-not-known c = unsound _ 0 (sym c.known.ensures ∙ c.if-not-known.true)
@@ -27,16 +27,12 @@ held_fits c =
     let small : c.tail_length-from.result < tail_room = rest-within _ _ c.tail_length-from.ensures in
     omega arith
 
-pub slice_bounds-bytes_zero-end : goal.slice_bounds-bytes_zero-end
-slice_bounds-bytes_zero-end c = let long : length c.args.half.tail ≡ tail_room = search rules in
-    omega arith
-
-pub returns-then-not-bytes_zero : goal.returns-then-not-bytes_zero
-returns-then-not-bytes_zero c = let h = c.args.half in
+pub returns-then-not-all_are : goal.returns-then-not-all_are
+returns-then-not-all_are c = let h = c.args.half in
     let long : length h.tail ≡ tail_room = search rules in
-    unsound h 3 (sym (zero-rule h long c.tail_length-from.ensures c.bytes_zero.ensures) ∙ c.if-not-bytes_zero.true)
+    unsound h 3 (sym (zero-rule h long c.tail_length-from.ensures c.all_are.ensures) ∙ c.if-not-all_are.true)
 
-kept : (c : Else-not-bytes_zero) →
+kept : (c : Else-not-all_are) →
     Kept c.args.half
 kept c =
     let h = c.args.half in
@@ -47,19 +43,19 @@ kept c =
       below =
           sym (below-rule h.edition h.words c.narrow.ensures c.below_width.ensures)
           ∙ c.if-not-below_width.false;
-      zero = sym (zero-rule h long c.tail_length-from.ensures c.bytes_zero.ensures) ∙ c.if-not-bytes_zero.false;
+      zero = sym (zero-rule h long c.tail_length-from.ensures c.all_are.ensures) ∙ c.if-not-all_are.false;
     }
 
 pub returns-then-size-count : goal.returns-then-size-count
-returns-then-size-count c = past-rule _ (kept (goal.at.returns-then-size-count c).Else-not-bytes_zero)
+returns-then-size-count c = past-rule _ (kept (goal.at.returns-then-size-count c).Else-not-all_are)
     (omega (arith, c.block_bytes-size.ensures))
 
 pub returns : goal.returns
-returns c = begun-rule _ (kept (goal.at.returns c).Else-not-bytes_zero) (omega (arith, c.block_bytes-size.ensures))
-    c.starting_words-start.ensures c.same_words.ensures
+returns c = begun-rule _ (kept (goal.at.returns c).Else-not-all_are) (omega (arith, c.block_bytes-size.ensures))
+    c.starting_words-start.ensures c.same.ensures
 
-pub slice_bounds-bytes_zero-count : goal.slice_bounds-bytes_zero-count
-slice_bounds-bytes_zero-count c = held_fits c
+pub slice_bounds-all_are-count : goal.slice_bounds-all_are-count
+slice_bounds-all_are-count c = held_fits c
 
-pub slice_bounds-bytes_zero-start : goal.slice_bounds-bytes_zero-start
-slice_bounds-bytes_zero-start c = held_fits c
+pub slice_bounds-all_are-start : goal.slice_bounds-all_are-start
+slice_bounds-all_are-start c = held_fits c

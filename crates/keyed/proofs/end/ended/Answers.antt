@@ -6,12 +6,10 @@ use native.Mathlib.Omega.{arith}
 use lib.ListN.{length, take}
 use lib.Seq.{length-take-le}
 use borrow.Author.Rules.{rules}
-use Rattle.slices.specs.Padded.{padded}
 use Rattle.halfread.specs.State.{tail_room}
 use Rattle.halfread.specs.Steps.{closed_digest}
 use Rattle.halfread.proofs.Sizes.{rest-within}
 use Rattle.dwsha2.specs.Code.Hashing.{finished, digest_from}
-use Rattle.keyed.specs.State.{tag_room}
 use Rattle.keyed.specs.Steps.{outer_digest, tag_of}
 use Rattle.keyed.proofs.end.ended.Goals as goal
 use Rattle.keyed.proofs.end.ended.Goals.{After-tail_length-end}
@@ -30,6 +28,6 @@ unfolding tag_of closed_digest
 returns c = let k = c.args.keyed in
     let h = k.inner in
     c.tag_of.ensures
-    ∙ ap (λ (w : List ℕ). padded tag_room (outer_digest h.edition k.outer (digest_from h.edition w)))
+    ∙ ap (λ (w : List ℕ). outer_digest h.edition k.outer (digest_from h.edition w))
     (c.finish-last.ensures
     ∙ ap (λ (n : ℕ). finished h.edition h.words h.count (take n h.tail) 0 0) c.tail_length-end.ensures)

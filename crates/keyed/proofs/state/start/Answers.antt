@@ -1,38 +1,20 @@
 -- `keyed::state::start` meets its contract: each refusal by its test, and the keyed hash that the key begins. Assumes nothing.
-use mathlib.Core.Path.{sym, ◌∙◌}
+use mathlib.Core.Path.{refl, sym, ◌∙◌}
 use Rattle.answers.specs.Judged.{first}
 use Rattle.answers.proofs.Outcome.{refused, done}
-use Rattle.slices.specs.Below.{Bytes}
 use Rattle.keyed.specs.Steps.{start_tests}
 use Rattle.keyed.proofs.state.start.Goals as goal
-use Rattle.keyed.proofs.state.start.Goals.{After-known}
 
--- what ownership knows
-
-lends : (c : After-known) → Bytes c.args.key.now
-lends c i = (c.shared_slice_known-1.given i).fits
-
-pub returns-then-not-known : goal.returns-then-not-known
+pub returns-then-not-known-clause-judged : goal.returns-then-not-known-clause-judged
 unfolding start_tests first
-returns-then-not-known c = record {
-  judged = refused (rw (sym c.known.ensures ∙ c.if-not-known.true)) tt c.blank.ensures;
-  bytes =
-      lends (goal.at.returns-then-not-known c).After-known;
-}
+returns-then-not-known-clause-judged c = refused (rw (sym c.known.ensures ∙ c.if-not-known.true)) tt refl
 
-pub returns-then-too_long : goal.returns-then-too_long
+pub returns-then-too_long-clause-judged : goal.returns-then-too_long-clause-judged
 unfolding start_tests first
-returns-then-too_long c = record {
-  judged = refused
-      (rw (sym c.known.ensures ∙ c.if-not-known.false, sym c.too_long.ensures ∙ c.if-too_long.true)) tt
-      c.blank-then-too_long.ensures;
-  bytes = lends (goal.at.returns-then-too_long c).After-known;
-}
+returns-then-too_long-clause-judged c =
+    refused (rw (sym c.known.ensures ∙ c.if-not-known.false, sym c.too_long.ensures ∙ c.if-too_long.true)) tt refl
 
-pub returns : goal.returns
+pub returns-clause-judged : goal.returns-clause-judged
 unfolding start_tests first
-returns c = record {
-  judged = done (rw (sym c.known.ensures ∙ c.if-not-known.false, sym c.too_long.ensures ∙ c.if-too_long.false))
-      c.begun-keyed.ensures;
-  bytes = lends (goal.at.returns c).After-known;
-}
+returns-clause-judged c =
+    done (rw (sym c.known.ensures ∙ c.if-not-known.false, sym c.too_long.ensures ∙ c.if-too_long.false)) c.begun.ensures

@@ -5,6 +5,6 @@ use Rattle.lines.proofs.text.append.Goals as goal
 
 pub returns : goal.returns
 returns c = let a = c.args in (
-  omega (arith, c.least-start.ensures, c.least.ensures),
-  put-part a.at a.text.now a.out.now _ _ c.least-start.ensures c.put_front.ensures,
+  omega (arith, c.min-start.ensures, c.min.ensures),
+  put-part a.at a.text.now a.out.now _ _ c.min-start.ensures c.put_front.ensures,
 )

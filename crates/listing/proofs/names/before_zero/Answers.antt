@@ -1,20 +1,15 @@
--- `listing::names::before_zero` meets its contract: what is left of the bytes decides.
-use native.Mathlib.Numerals.{add-one}
-use native.Mathlib.Omega.{arith}
-use Rattle.listing.proofs.ByZeros.{before-turn, before-stop, before-end}
+-- `listing::names::before_zero` meets its contract: the place of the first zero, or the end.
+use Rattle.std.proofs.Common.{◌≡◌, nat_eq, rules, tests, ◌∙◌}
+use Rattle.std.specs.List.{position}
+use Rattle.std.proofs.lemmas.Iterator.{YieldsList-from_slice}
+use Rattle.std.proofs.lemmas.Iterator.Search.{position_from_yields_List}
+use Rattle.listing.proofs.ByZeros.{before-within, before-found}
 use Rattle.listing.proofs.names.before_zero.Goals as goal
 
-pub returns-then-bytes-i-eq0 : goal.returns-then-bytes-i-eq0
-returns-then-bytes-i-eq0 c = let l = c.loop-i in
-    (before-stop _ l.i (omega arith) c.if-bytes-i-eq0.true l.invariant.1, omega arith)
-
-pub loop-i-preserved : goal.loop-i-preserved
-loop-i-preserved c = let l = c.loop-i in
-    (omega arith, rw add-one (before-turn _ l.i (omega arith) c.if-bytes-i-eq0.false l.invariant.1))
-
 pub returns : goal.returns
-returns c = let l = c.loop-i in
-    (before-end _ l.i (omega arith) l.invariant.1, omega (arith, l.invariant.0))
-
-pub loop-i-init : goal.loop-i-init
-loop-i-init c = (omega arith, omega arith)
+returns c =
+    let found : c.position.result ≡ position (λ b. nat_eq b 0) c.args.bytes.now =
+    position_from_yields_List (λ b. nat_eq b 0) _ _ _ c.position.ensures.ran (YieldsList-from_slice _ c.iter.ensures.rest)
+    (λ x b q k. search (rules, tests)) in
+    let is = c.unwrap_or.ensures ∙ rw found (before-found c.args.bytes.now) in
+    (is, rw is (before-within c.args.bytes.now))

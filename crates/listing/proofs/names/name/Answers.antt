@@ -1,23 +1,26 @@
--- `listing::names::name` meets its contract: after so many names, what is left has the name with what is left of its number.
-use mathlib.Core.Path.{refl, ◌∙◌}
-use native.Mathlib.Omega.{arith}
+-- `listing::names::name` meets its contract: what begins at the place is what stands behind so many names.
+use Rattle.std.proofs.Common.{◌≡◌, ℕ, refl, ap, ◌∙◌, sym, add-one, arith}
 use Rattle.slices.proofs.LiesAt.{lies-also}
-use Rattle.listing.proofs.ByZeros.{name-turn, from-turn, name-here, place_here}
+use Rattle.listing.specs.Names.{names_from}
+use Rattle.listing.proofs.ByZeros.{from-next, name-here, place_here}
 use Rattle.listing.proofs.names.name.Goals as goal
 
-pub loop-left-preserved : goal.loop-left-preserved
-loop-left-preserved c = let l = c.loop-left in
-    let rest = c.behind_zero-at.ensures.1 in (
-      c.behind_zero-at.ensures.0,
-      (l.invariant.1.0 ∙ name-turn l.left _ _ _ (omega arith) rest, l.invariant.1.1 ∙ from-turn l.left _ _ _ (omega arith) rest),
-    )
+pub loop-init : goal.loop-init
+unfolding names_from
+loop-init c = (omega arith, refl)
+
+pub loop-preserved : goal.loop-preserved
+loop-preserved c =
+    let l = c.loop in
+    let next = c.behind_zero-at.ensures in
+    (next.0, next.1 ∙ rw (l.invariant.1, add-one) (sym (from-next l.counter _)))
 
 pub returns : goal.returns
-returns c = let l = c.loop-left in
+returns c =
+    let l = c.loop in
+    let last : l.counter ≡ c.args.i = omega arith in
+    let from = l.invariant.1 ∙ ap (λ (k : ℕ). names_from k c.args.input.now) last in
     record {
-      result_value = c.part.ensures.result_value ∙ name-here _ _ l.at l.left _ (omega arith) c.before_zero.ensures.0 l.invariant.1.0;
-      lies_at = lies-also (place_here _ _ l.at l.left (omega arith) l.invariant.0 l.invariant.1.1) c.part.ensures.lies_at;
+      result_value = c.part.ensures.result_value ∙ name-here _ _ l.at _ c.before_zero.ensures.0 from;
+      lies_at = lies-also (place_here _ _ l.at l.invariant.0 from) c.part.ensures.lies_at;
     }
-
-pub loop-left-init : goal.loop-left-init
-loop-left-init c = (omega arith, (refl, refl))

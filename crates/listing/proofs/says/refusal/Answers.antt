@@ -8,4 +8,4 @@ use Rattle.listing.proofs.says.refusal.Goals as goal
 pub returns : goal.returns
 unfolding refusal_line
 returns c = let cut = ap shown c.part.ensures.result_value in
-    then _ _ _ _ (renamed _ _ _ _ cut c.put_shown-at.ensures) c.put_reason.ensures
+    then _ _ _ _ (renamed _ _ _ _ cut c.put_shown-at.ensures) (renamed _ _ _ _ c.words.ensures c.append.ensures)

@@ -11,7 +11,7 @@ use Rattle.lists.proofs.entries.entry_at.Goals.{After-digest_size}
 far : (c : After-digest_size) →
     (c.digest_size.result ≤ 64) × (c.args.i * entry_size c.digest_size.result ≤ 256 ^ number_size * entry_size 64)
 far c =
-    let few = entry-far c.args.list.now c.args.i c.requires (λ i. (c.shared_slice_known-1.given i).fits) in
+    let few = entry-far c.args.list.now c.args.i c.requires (λ i. (c.type_inv.list i).fits) in
     (rw c.digest_size.ensures (digest-short _), rw c.digest_size.ensures few)
 
 pub returns : goal.returns

@@ -6,4 +6,4 @@ use Rattle.lists.proofs.fields.number.Goals as goal
 pub returns : goal.returns
 returns c = let a = c.args in
     c.field.ensures
-    ∙ field-word64 a.list.now a.at a.n (λ i. (c.shared_slice_known-1.given i).fits) c.requires
+    ∙ field-word64 a.list.now a.at a.n (λ i. (c.type_inv.list i).fits) c.requires

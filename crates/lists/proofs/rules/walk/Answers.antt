@@ -1,5 +1,5 @@
 -- `lists::rules::walk` meets its contract. What is left from entry i on decides: it starts at `at`, and its names at `next`.
-use mathlib.Core.Bool.{true, false, false≢true}
+use mathlib.Core.Bool.{true, false}
 use mathlib.Core.List.{List, []}
 use mathlib.Core.Path.{◌≡◌, sym, ◌∙◌}
 use Prim.Native.Nat.{ℕ, ◌+◌, ◌-◌, ◌*◌, ◌<◌, ◌≤◌}
@@ -7,6 +7,8 @@ use native.Mathlib.Nat.{sub-zero, sub_self, add-sub_cancel_left}
 use native.Mathlib.Omega.{arith}
 use lib.Dec.{eqb}
 use lib.ListN.{length, drop}
+use Rattle.std.specs.Prelude.{Option, Some}
+use borrow.Author.Tests.{eq-eqb, ne_eqb}
 use Rattle.slices.specs.Parts.{part}
 use Rattle.lists.specs.Code.Place.{earlier}
 use Rattle.lists.specs.Layout.{entries_at, entry_head, entry_size, names_at, name_length, read_pairs}
@@ -71,39 +73,28 @@ module _ (bs name : List ℕ) (count d at next last n i : ℕ) (f : Left bs name
       let e : count - i ≡ 0 = omega arith in
       earlier-over name (read_pairs count d (drop entries_at bs) bs) n i d (drop at bs) bs (rw e at f.places)
 
-pub loop-i-init : goal.loop-i-init
-loop-i-init c = start _ _ _ _ c.requires.2
+some-number : {m n : ℕ} → ◌≡◌ {A = Option ℕ} (Some m) (Some n) → n ≡ m
+some-number e = cc
 
-pub entry_right-requires : goal.entry_right-requires
-entry_right-requires c = let f = c.loop-i.invariant in
-    omega (arith, entry-room _ _ _ _ _ _ _ _ _ f c.loop-i-test.true, f)
-
-pub returns-then-not-entry_right : goal.returns-then-not-entry_right
-returns-then-not-entry_right c = record {
-  right_value = stop _ _ _ _ _ _ _ _ _ c.loop-i.invariant c.loop-i-test.true
-      (sym c.entry_right.ensures ∙ c.if-not-entry_right.true);
-  earlier_value = λ e. absurd (false≢true e);
-}
-
-pub name_length-len-requires : goal.name_length-len-requires
-name_length-len-requires c = omega (arith, entry-room _ _ _ _ _ _ _ _ _ c.loop-i.invariant c.loop-i-test.true)
-
-pub further-earlier-requires : goal.further-earlier-requires
-further-earlier-requires c = omega (arith, c.loop-i-test.true, c.requires.1)
+pub returns-then-not-entry_right-clause-right_value : goal.returns-then-not-entry_right-clause-right_value
+returns-then-not-entry_right-clause-right_value c = stop _ _ _ _ _ _ _ _ _ c.loop-i.invariant c.loop-i-test.true
+    (sym c.entry_right.ensures ∙ c.if-not-entry_right.true)
 
 pub loop-i-preserved : goal.loop-i-preserved
 loop-i-preserved c = turn _ _ _ _ _ _ _ _ _ c.loop-i.invariant _ c.loop-i-test.true c.name_length-len.ensures
     (sym c.entry_right.ensures ∙ c.if-not-entry_right.false)
     _ c.part.ensures.result_value _ c.further-earlier.ensures
 
-pub returns : goal.returns
-returns c = record {
-  right_value = whole _ _ _ _ _ _ _ _ _ c.loop-i.invariant c.loop-i-test.false;
-  earlier_value = λ e. placed _ _ _ _ _ _ _ _ _ c.loop-i.invariant c.loop-i-test.false;
-}
+pub returns-then-next-list-clause-right_value : goal.returns-then-next-list-clause-right_value
+returns-then-next-list-clause-right_value c =
+    sym (ne_eqb _ _ c.if-next-list.true) ∙ whole _ _ _ _ _ _ _ _ _ c.loop-i.invariant c.loop-i-test.false
+
+pub returns-clause-right_value : goal.returns-clause-right_value
+returns-clause-right_value c =
+    sym (eq-eqb _ _ c.if-next-list.false) ∙ whole _ _ _ _ _ _ _ _ _ c.loop-i.invariant c.loop-i-test.false
+
+pub returns-clause-earlier_value : goal.returns-clause-earlier_value
+returns-clause-earlier_value c = λ n e. some-number e ∙ placed _ _ _ _ _ _ _ _ _ c.loop-i.invariant c.loop-i-test.false
 
 pub overflow_add-next-in-loop-i : goal.overflow_add-next-in-loop-i
 overflow_add-next-in-loop-i c = omega (arith, loop-i-preserved c)
-
-pub overflow_add-at : goal.overflow_add-at
-overflow_add-at c = omega (arith, loop-i-preserved c)

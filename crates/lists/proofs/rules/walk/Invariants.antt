@@ -20,6 +20,3 @@ pub record Left (bs name : List ℕ) (count d at next last n i : ℕ) : Type 0 w
 
 abbrev pub invariant-loop-i : goal.invariant-loop-i
 invariant-loop-i l = Left l.list l.name l.count l.digest l.at l.next l.last l.earlier l.i
-
-abbrev pub decreases-loop-i : goal.decreases-loop-i
-decreases-loop-i l = l.count - l.i

@@ -1,134 +1,134 @@
 -- `night::fits::refusal` meets its contract: the tests so far are passed, and the first that applies decides. Assumes nothing.
+use Prim.Native.Nat.{ℕ}
 use mathlib.Core.Bool.{not}
-use mathlib.Core.Path.{sym, ap, ◌∙◌}
+use mathlib.Core.List.{List}
+use mathlib.Core.Path.{◌≡◌, sym, ap, ◌∙◌}
 use lib.Dec.{ltb}
+use lib.ListN.{length, drop}
 use borrow.Author.Tests.{lt-ltb, le-ltb}
-use Rattle.answers.specs.Judged.{first}
+use Rattle.answers.specs.Judged.{Test, first}
 use Rattle.night.specs.Night.{night_tests}
+use Rattle.night.specs.declared.Files.{Files}
+use Rattle.night.specs.declared.fits.Lengths.{Lengths}
 use Rattle.night.proofs.Refusals.{no_room, has_room}
 use Rattle.night.proofs.fits.refusal.Goals as goal
+use Rattle.night.proofs.fits.refusal.Goals.{Else-not-known, Else-too_long-3}
 
-pub returns-then-table-lt-THREE_BAYS : goal.returns-then-table-lt-THREE_BAYS
-unfolding night_tests first
-returns-then-table-lt-THREE_BAYS c = rw (no_room _ c.if-table-lt-THREE_BAYS.true)
+abbrev tests : Files → Lengths → List Test
+tests f l =
+    night_tests l.table l.anew f.edition (length f.a.now) (length f.b.now) (length f.c.now) l.size l.saved l.first l.second l.third
 
-pub returns-then-anew-lt-THREE_BAYS : goal.returns-then-anew-lt-THREE_BAYS
+-- the first k tests are passed: the others decide
+abbrev Past : ℕ → Files → Lengths → Type 0
+Past k f l = first (tests f l) ≡ first (drop k (tests f l))
+
+pub returns-then-lent-lt-THREE_BAYS : goal.returns-then-lent-lt-THREE_BAYS
 unfolding night_tests first
-returns-then-anew-lt-THREE_BAYS c = rw (has_room _ c.if-table-lt-THREE_BAYS.false, no_room _ c.if-anew-lt-THREE_BAYS.true)
+returns-then-lent-lt-THREE_BAYS c =
+    rw (no_room _ c.if-lent-lt-THREE_BAYS.true)
+
+pub returns-then-lent-lt-THREE_BAYS-2 : goal.returns-then-lent-lt-THREE_BAYS-2
+unfolding night_tests first
+returns-then-lent-lt-THREE_BAYS-2 c =
+    rw (
+      has_room _ c.if-lent-lt-THREE_BAYS.false,
+      no_room _ c.if-lent-lt-THREE_BAYS-2.true,
+    )
 
 pub returns-then-not-known : goal.returns-then-not-known
 unfolding night_tests first
-returns-then-not-known c = rw (
-  has_room _ c.if-table-lt-THREE_BAYS.false,
-  has_room _ c.if-anew-lt-THREE_BAYS.false,
-  ap not (sym c.known.ensures ∙ c.if-not-known.true),
-)
+returns-then-not-known c =
+    rw (
+      has_room _ c.if-lent-lt-THREE_BAYS.false,
+      has_room _ c.if-lent-lt-THREE_BAYS-2.false,
+      ap not (sym c.known.ensures ∙ c.if-not-known.true),
+    )
+
+-- tables and edition
+
+laid : (c : Else-not-known) → Past 3 c.args.files c.args.lent
+unfolding night_tests first
+laid c =
+    rw (
+      has_room _ c.if-lent-lt-THREE_BAYS.false,
+      has_room _ c.if-lent-lt-THREE_BAYS-2.false,
+      ap not (sym c.known.ensures ∙ c.if-not-known.false),
+    )
 
 pub returns-then-too_long : goal.returns-then-too_long
 unfolding night_tests first
-returns-then-too_long c = rw (
-  has_room _ c.if-table-lt-THREE_BAYS.false,
-  has_room _ c.if-anew-lt-THREE_BAYS.false,
-  ap not (sym c.known.ensures ∙ c.if-not-known.false),
-  sym c.too_long.ensures ∙ c.if-too_long.true,
-)
+returns-then-too_long c =
+    sym (laid (goal.at.returns-then-too_long c).Else-not-known ∙ rw (sym c.if-too_long.ensures))
 
 pub returns-then-too_long-2 : goal.returns-then-too_long-2
 unfolding night_tests first
-returns-then-too_long-2 c = rw (
-  has_room _ c.if-table-lt-THREE_BAYS.false,
-  has_room _ c.if-anew-lt-THREE_BAYS.false,
-  ap not (sym c.known.ensures ∙ c.if-not-known.false),
-  sym c.too_long.ensures ∙ c.if-too_long.false,
-  sym c.too_long-2.ensures
-      ∙ c.if-too_long-2.true,
-)
+returns-then-too_long-2 c =
+    sym (laid (goal.at.returns-then-too_long-2 c).Else-not-known ∙ rw (
+      sym c.if-too_long.ensures,
+      sym c.if-too_long-2.ensures,
+    ))
 
 pub returns-then-too_long-3 : goal.returns-then-too_long-3
 unfolding night_tests first
-returns-then-too_long-3 c = rw (
-  has_room _ c.if-table-lt-THREE_BAYS.false,
-  has_room _ c.if-anew-lt-THREE_BAYS.false,
-  ap not (sym c.known.ensures ∙ c.if-not-known.false),
-  sym c.too_long.ensures ∙ c.if-too_long.false,
-  sym c.too_long-2.ensures
-      ∙ c.if-too_long-2.false,
-  sym c.too_long-3.ensures ∙ c.if-too_long-3.true,
-)
+returns-then-too_long-3 c =
+    sym (laid (goal.at.returns-then-too_long-3 c).Else-not-known ∙ rw (
+      sym c.if-too_long.ensures,
+      sym c.if-too_long-2.ensures,
+      sym c.if-too_long-3.ensures,
+    ))
 
-pub returns-then-saved-size : goal.returns-then-saved-size
-unfolding night_tests first
-returns-then-saved-size c = rw (
-  has_room _ c.if-table-lt-THREE_BAYS.false,
-  has_room _ c.if-anew-lt-THREE_BAYS.false,
-  ap not (sym c.known.ensures ∙ c.if-not-known.false),
-  sym c.too_long.ensures ∙ c.if-too_long.false,
-  sym c.too_long-2.ensures
-      ∙ c.if-too_long-2.false,
-  sym c.too_long-3.ensures ∙ c.if-too_long-3.false,
-  lt-ltb _ _ c.if-saved-size.true,
-)
+-- and the three files
 
-pub returns-then-x-room : goal.returns-then-x-room
+filed : (c : Else-too_long-3) → Past 6 c.args.files c.args.lent
 unfolding night_tests first
-returns-then-x-room c = rw (
-  has_room _ c.if-table-lt-THREE_BAYS.false,
-  has_room _ c.if-anew-lt-THREE_BAYS.false,
-  ap not (sym c.known.ensures ∙ c.if-not-known.false),
-  sym c.too_long.ensures ∙ c.if-too_long.false,
-  sym c.too_long-2.ensures
-      ∙ c.if-too_long-2.false,
-  sym c.too_long-3.ensures ∙ c.if-too_long-3.false,
-  le-ltb _ _ c.if-saved-size.false,
-  ap (ltb c.args.x) (sym c.digest_bytes-room.ensures) ∙ lt-ltb _ _ c.if-x-room.true,
-)
+filed c =
+    rw (
+      has_room _ c.if-lent-lt-THREE_BAYS.false,
+      has_room _ c.if-lent-lt-THREE_BAYS-2.false,
+      ap not (sym c.known.ensures ∙ c.if-not-known.false),
+      sym c.if-too_long.ensures,
+      sym c.if-too_long-2.ensures,
+      sym c.if-too_long-3.ensures,
+    )
 
-pub returns-then-y-room : goal.returns-then-y-room
+pub returns-then-lent : goal.returns-then-lent
 unfolding night_tests first
-returns-then-y-room c = rw (
-  has_room _ c.if-table-lt-THREE_BAYS.false,
-  has_room _ c.if-anew-lt-THREE_BAYS.false,
-  ap not (sym c.known.ensures ∙ c.if-not-known.false),
-  sym c.too_long.ensures ∙ c.if-too_long.false,
-  sym c.too_long-2.ensures
-      ∙ c.if-too_long-2.false,
-  sym c.too_long-3.ensures ∙ c.if-too_long-3.false,
-  le-ltb _ _ c.if-saved-size.false,
-  ap (ltb c.args.x) (sym c.digest_bytes-room.ensures) ∙ le-ltb _ _ c.if-x-room.false,
-  ap (ltb c.args.y) (sym c.digest_bytes-room.ensures)
-      ∙ lt-ltb _ _ c.if-y-room.true,
-)
+returns-then-lent c =
+    sym (filed (goal.at.returns-then-lent c).Else-too_long-3 ∙ rw (lt-ltb _ _ c.if-lent.true))
 
-pub returns-then-z-room : goal.returns-then-z-room
+pub returns-then-lent-room : goal.returns-then-lent-room
 unfolding night_tests first
-returns-then-z-room c = rw (
-  has_room _ c.if-table-lt-THREE_BAYS.false,
-  has_room _ c.if-anew-lt-THREE_BAYS.false,
-  ap not (sym c.known.ensures ∙ c.if-not-known.false),
-  sym c.too_long.ensures ∙ c.if-too_long.false,
-  sym c.too_long-2.ensures
-      ∙ c.if-too_long-2.false,
-  sym c.too_long-3.ensures ∙ c.if-too_long-3.false,
-  le-ltb _ _ c.if-saved-size.false,
-  ap (ltb c.args.x) (sym c.digest_bytes-room.ensures) ∙ le-ltb _ _ c.if-x-room.false,
-  ap (ltb c.args.y) (sym c.digest_bytes-room.ensures)
-      ∙ le-ltb _ _ c.if-y-room.false,
-  ap (ltb c.args.z) (sym c.digest_bytes-room.ensures) ∙ lt-ltb _ _ c.if-z-room.true,
-)
+returns-then-lent-room c =
+    sym (filed (goal.at.returns-then-lent-room c).Else-too_long-3 ∙ rw (
+      le-ltb _ _ c.if-lent.false,
+      ap (ltb c.args.lent.first) (sym c.digest_bytes-room.ensures) ∙ lt-ltb _ _ c.if-lent-room.true,
+    ))
+
+pub returns-then-lent-room-2 : goal.returns-then-lent-room-2
+unfolding night_tests first
+returns-then-lent-room-2 c =
+    sym (filed (goal.at.returns-then-lent-room-2 c).Else-too_long-3 ∙ rw (
+      le-ltb _ _ c.if-lent.false,
+      ap (ltb c.args.lent.first) (sym c.digest_bytes-room.ensures) ∙ le-ltb _ _ c.if-lent-room.false,
+      ap (ltb c.args.lent.second) (sym c.digest_bytes-room.ensures) ∙ lt-ltb _ _ c.if-lent-room-2.true,
+    ))
+
+pub returns-then-lent-room-3 : goal.returns-then-lent-room-3
+unfolding night_tests first
+returns-then-lent-room-3 c =
+    sym (filed (goal.at.returns-then-lent-room-3 c).Else-too_long-3 ∙ rw (
+      le-ltb _ _ c.if-lent.false,
+      ap (ltb c.args.lent.first) (sym c.digest_bytes-room.ensures) ∙ le-ltb _ _ c.if-lent-room.false,
+      ap (ltb c.args.lent.second) (sym c.digest_bytes-room.ensures) ∙ le-ltb _ _ c.if-lent-room-2.false,
+      ap (ltb c.args.lent.third) (sym c.digest_bytes-room.ensures) ∙ lt-ltb _ _ c.if-lent-room-3.true,
+    ))
 
 pub returns : goal.returns
 unfolding night_tests first
-returns c = rw (
-  has_room _ c.if-table-lt-THREE_BAYS.false,
-  has_room _ c.if-anew-lt-THREE_BAYS.false,
-  ap not (sym c.known.ensures ∙ c.if-not-known.false),
-  sym c.too_long.ensures ∙ c.if-too_long.false,
-  sym c.too_long-2.ensures
-      ∙ c.if-too_long-2.false,
-  sym c.too_long-3.ensures ∙ c.if-too_long-3.false,
-  le-ltb _ _ c.if-saved-size.false,
-  ap (ltb c.args.x) (sym c.digest_bytes-room.ensures) ∙ le-ltb _ _ c.if-x-room.false,
-  ap (ltb c.args.y) (sym c.digest_bytes-room.ensures)
-      ∙ le-ltb _ _ c.if-y-room.false,
-  ap (ltb c.args.z) (sym c.digest_bytes-room.ensures) ∙ le-ltb _ _ c.if-z-room.false,
-)
+returns c =
+    sym (filed (goal.at.returns c).Else-too_long-3 ∙ rw (
+      le-ltb _ _ c.if-lent.false,
+      ap (ltb c.args.lent.first) (sym c.digest_bytes-room.ensures) ∙ le-ltb _ _ c.if-lent-room.false,
+      ap (ltb c.args.lent.second) (sym c.digest_bytes-room.ensures) ∙ le-ltb _ _ c.if-lent-room-2.false,
+      ap (ltb c.args.lent.third) (sym c.digest_bytes-room.ensures) ∙ le-ltb _ _ c.if-lent-room-3.false,
+    ))

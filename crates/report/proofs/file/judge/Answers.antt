@@ -1,7 +1,7 @@
 -- `report::file::judge` meets its contract.
-use mathlib.Core.Bool.{Bool, true, false, cond}
+use mathlib.Core.Bool.{Bool, true, false, not, cond}
 use mathlib.Core.List.{List}
-use mathlib.Core.Path.{◌≡◌, sym}
+use mathlib.Core.Path.{◌≡◌, sym, ap, ◌∙◌}
 use Prim.Native.Nat.{ℕ, ◌≤◌}
 use native.Mathlib.Omega.{arith}
 use lib.ListN.{length}
@@ -14,11 +14,11 @@ use Rattle.lines.specs.declared.Verdict.{Verdict}
 use Rattle.report.specs.Code.Files.{judged, after_close}
 use Rattle.report.proofs.Through.{unclosed, compares}
 use Rattle.report.proofs.file.judge.Goals as goal
-use Rattle.report.proofs.file.judge.Goals.{After-digest_bytes-size, After-same_bytes}
+use Rattle.report.proofs.file.judge.Goals.{After-digest_bytes-size, After-same}
 
-pub returns-then-number-ne0 : goal.returns-then-number-ne0
-returns-then-number-ne0 c =
-    let is = unclosed _ _ _ c.close.ensures.outcome c.number.ensures c.if-number-ne0.true in
+pub returns-then-is_err : goal.returns-then-is_err
+returns-then-is_err c =
+    let is = unclosed _ _ _ c.close.ensures.outcome (c.is_err.ensures.negation ∙ ap not c.if-is_err.true) in
     record { value = is.0; table_after = is.1 }
 
 short : (n e : ℕ) (to : List ℕ) → n ≡ digest_bytes e → length to ≡ 64 → n ≤ length to
@@ -31,29 +31,29 @@ within c =
 
 -- what is left of a file whose bay is closed and compared, with that verdict
 
-abbrev Ends : After-same_bytes → Verdict → Type 0
+abbrev Ends : After-same → Verdict → Type 0
 Ends c v =
     let a = c.args in
     (v ≡ judged a.table.now (edition_in a.list.now) (pair_in a.i a.list.now).digest)
     × (c.close.new.table ≡ after_close a.table.now)
 
-decided : (c : After-same_bytes) (b : Bool) → c.same_bytes.result ≡ b → Ends c (cond b Verdict.Ok Verdict.Bad)
+decided : (c : After-same) (b : Bool) → c.same.result ≡ b → Ends c (cond b Verdict.Ok Verdict.Bad)
 decided c b e =
-    compares _ _ _ _ _ _ _ _ c.close.ensures.outcome c.number.ensures c.if-number-ne0.false
-    c.digest_bytes-size.ensures c.edition.ensures c.digest.ensures.result_value c.same_bytes.ensures e
+    compares _ _ _ _ _ _ _ _ c.close.ensures.outcome (c.is_err.ensures.negation ∙ ap not c.if-is_err.false)
+    c.digest_bytes-size.ensures c.edition.ensures c.digest.ensures.result_value c.same.ensures e
 
 pub slice_bounds-out-end : goal.slice_bounds-out-end
 slice_bounds-out-end c = within c
 
-pub slice_bounds-same_bytes-end : goal.slice_bounds-same_bytes-end
-slice_bounds-same_bytes-end c = sym (length-take-le _ _ (within (goal.at.slice_bounds-same_bytes-end c).After-digest_bytes-size))
+pub slice_bounds-same-end : goal.slice_bounds-same-end
+slice_bounds-same-end c = sym (length-take-le _ _ (within (goal.at.slice_bounds-same-end c).After-digest_bytes-size))
 
-pub returns-then-same_bytes : goal.returns-then-same_bytes
-returns-then-same_bytes c =
-    let is = decided (goal.at.returns-then-same_bytes c).After-same_bytes true c.if-same_bytes.true in
+pub returns-then-same : goal.returns-then-same
+returns-then-same c =
+    let is = decided (goal.at.returns-then-same c).After-same true c.if-same.true in
     record { value = is.0; table_after = is.1 }
 
 pub returns : goal.returns
 returns c =
-    let is = decided (goal.at.returns c).After-same_bytes false c.if-same_bytes.false in
+    let is = decided (goal.at.returns c).After-same false c.if-same.false in
     record { value = is.0; table_after = is.1 }

@@ -48,12 +48,12 @@ pub returns : goal.returns
 unfolding add_tests first
 returns c = record {
   judged = done (rw (is-sound (goal.at.returns c).Else-not-is_sound, sym c.too_long.ensures ∙ c.if-too_long.false))
-      c.with_piece-next.ensures;
+      c.with_piece.ensures;
   shaped = shape (goal.at.returns c).After-is_sound;
 }
 
 pub too_long-requires : goal.too_long-requires
 too_long-requires c = (sound-has _ (is-sound c)).counts.limit
 
-pub with_piece-next-requires : goal.with_piece-next-requires
-with_piece-next-requires c = (is-sound (goal.at.with_piece-next-requires c).Else-not-is_sound, room c)
+pub with_piece-requires : goal.with_piece-requires
+with_piece-requires c = (is-sound (goal.at.with_piece-requires c).Else-not-is_sound, room c)

@@ -1,91 +1,47 @@
 -- `stream::root::root_of` meets its contract: the roots folded, behind them the leaf of the bytes that follow the chunks. Assumes nothing.
-use Prim.Native.Nat.{◌+◌, ◌-◌, ◌*◌, ◌≤◌}
-use mathlib.Core.Path.{◌≡◌, sym}
+use Prim.Native.Nat.{ℕ, ◌≤◌}
+use mathlib.Core.Path.{◌≡◌, sym, ap, ◌∙◌}
 use native.Mathlib.Omega.{arith}
-use lib.ListN.{length, length-take, length-drop}
+use lib.ListN.{length, take}
 use lib.Seq.{length-take-le}
 use borrow.Author.Rules.{rules}
-use Rattle.treerule.specs.Root.{chunk_bytes, node_bytes}
-use Rattle.stream.specs.State.{root_room}
+use Rattle.treerule.specs.Root.{chunk_bytes}
+use Rattle.tree.specs.Code.Held.{held as nodes}
+use Rattle.stream.specs.State.{held, root_room}
+use Rattle.stream.proofs.Folding.{nodes-front}
 use Rattle.stream.proofs.Soundness.{Sound, sound-has}
 use Rattle.stream.proofs.Rooting.{root-further, root-nothing, root-last}
 use Rattle.stream.proofs.root.root_of.Goals as goal
-use Rattle.stream.proofs.root.root_of.Goals.{After-held-count, After-roots-then-end-gt0-1, Else-count-lt1}
+use Rattle.stream.proofs.root.root_of.Goals.{After-held}
 
-has : (c : After-held-count) → Sound c.args.stream
-has c = sound-has _ c.requires
+-- a stream that is sound has no more roots than there is room for
 
-roots-long : (c : After-held-count) → length c.args.stream.roots ≡ root_room
-roots-long c = search rules
+few : (c : After-held) → c.held.result ≤ length c.as_chunks.result.0.now
+few c =
+    let long : length c.args.stream.roots ≡ root_room = search rules in
+    let has : Sound c.args.stream = sound-has _ c.requires in
+    omega (arith, has.few, long, c.held.ensures, c.as_chunks.ensures.front_len)
 
-bytes-long : (c : After-held-count) → length c.args.stream.bytes ≡ chunk_bytes
-bytes-long c = search rules
+is-held : (c : After-held) → take c.held.result c.as_chunks.result.0.now ≡ held c.args.stream
+is-held c =
+    let long : length c.args.stream.roots ≡ root_room = search rules in
+    let has : Sound c.args.stream = sound-has _ c.requires in
+    nodes-front c.args.stream.roots c.as_chunks.ensures.front c.held.result (omega (arith, has.few, long, c.held.ensures))
+    ∙ ap (λ (n : ℕ). nodes n c.args.stream.roots) c.held.ensures
 
-few : (c : After-held-count) → c.held-count.result ≤ 32
-few c = omega (arith, c.held-count.ensures, (has c).few)
-
-pub slice_bounds-bytes-end : goal.slice_bounds-bytes-end
-slice_bounds-bytes-end c = omega (
-  arith,
-  (has (goal.at.slice_bounds-bytes-end c).After-held-count).counts.short,
-  bytes-long (goal.at.slice_bounds-bytes-end c).After-held-count,
-)
+pub slice_bounds-roots-end : goal.slice_bounds-roots-end
+slice_bounds-roots-end c = sym (length-take-le _ _ (few c))
 
 pub returns-then-end-gt0 : goal.returns-then-end-gt0
-returns-then-end-gt0 c = root-further c.args.stream c.held-count.ensures (bytes-long (goal.at.returns-then-end-gt0 c).After-held-count)
-    (has (goal.at.returns-then-end-gt0 c).After-held-count).counts.short
-    c.if-end-gt0.true
-    c.leaf.ensures c.fold.ensures
+returns-then-end-gt0 c =
+    let long : length c.args.stream.bytes ≡ chunk_bytes = search rules in
+    root-further c.args.stream (is-held (goal.at.returns-then-end-gt0 c).After-held) long (sound-has _ c.requires).counts.short
+    c.if-end-gt0.true c.leaf.ensures c.fold.ensures
 
-pub returns-then-count-lt1 : goal.returns-then-count-lt1
-returns-then-count-lt1 c = root-nothing c.args.stream c.held-count.ensures (omega (arith, c.if-end-gt0.false)) (omega
-    (arith, c.if-count-lt1.true))
-    c.nothing.ensures
+pub returns-in-Some : goal.returns-in-Some
+returns-in-Some c = root-last c.args.stream (is-held (goal.at.returns-in-Some c).After-held) c.in-Some.before.now c.in-Some.last.now
+    (omega (arith, c.if-end-gt0.false)) c.in-Some.ensures.cases.0 c.fold-in-Some.ensures
 
-at-within : (c : Else-count-lt1) → (c.held-count.result - 1) * node_bytes + node_bytes ≤ root_room
-at-within c =
-    let has' : Sound c.args.stream = sound-has _ c.requires in
-    let few' : c.held-count.result ≤ 32 = omega (arith, c.held-count.ensures, (has').few) in
-    omega (arith, few', c.if-count-lt1.false)
-
-pub front_node-last-requires : goal.front_node-last-requires
-front_node-last-requires c = simp (length-take, length-drop)
-    (omega (
-      arith,
-      at-within (goal.at.front_node-last-requires c).Else-count-lt1,
-      roots-long (goal.at.front_node-last-requires c).After-held-count,
-    ))
-
-pub returns : goal.returns
-returns c = root-last c.args.stream c.held-count.ensures root_room (roots-long (goal.at.returns c).After-held-count)
-    (omega (arith, c.if-end-gt0.false)) c.if-count-lt1.false
-    c.front_node-last.ensures c.fold-2.ensures
-
-pub slice_bounds-leaf-end : goal.slice_bounds-leaf-end
-slice_bounds-leaf-end c = sym (length-take-le _ _ (slice_bounds-bytes-end (goal.at.slice_bounds-leaf-end c).After-roots-then-end-gt0-1))
-
-pub fold-requires : goal.fold-requires
-fold-requires c =
-    (omega arith, omega (arith, few (goal.at.fold-requires c).After-held-count, roots-long (goal.at.fold-requires c).After-held-count))
-
-pub overflow_mul-at : goal.overflow_mul-at
-overflow_mul-at c = record { fits = omega (arith, at-within c) }
-
-pub slice_bounds-front_node-count : goal.slice_bounds-front_node-count
-slice_bounds-front_node-count c = omega (arith, at-within c)
-
-pub slice_bounds-front_node-start : goal.slice_bounds-front_node-start
-slice_bounds-front_node-start c = omega (arith, at-within c)
-
-pub slice_bounds-front_node-end : goal.slice_bounds-front_node-end
-slice_bounds-front_node-end c = omega (arith, roots-long (goal.at.slice_bounds-front_node-end c).After-held-count)
-
-pub fold-requires-2 : goal.fold-requires-2
-fold-requires-2 c = (
-  omega arith,
-  omega (
-    arith,
-    at-within (goal.at.fold-requires-2 c).Else-count-lt1,
-    roots-long (goal.at.fold-requires-2 c).After-held-count,
-  ),
-)
+pub returns-in-None : goal.returns-in-None
+returns-in-None c = root-nothing c.args.stream (is-held (goal.at.returns-in-None c).After-held) (omega (arith, c.if-end-gt0.false))
+    c.in-None.ensures.cases c.nothing.ensures

@@ -1,16 +1,11 @@
--- `stream::roots::fold` meets its contract. The invariant: the roots that are left and the node behind them fold to the same. The measure
--- is how many are left. Assumes nothing.
-use Rattle.stream.proofs.Folding.{folded_start, folded_more, folded-end}
+-- `stream::roots::fold` meets its contract. The invariant: the roots that are left and the node behind them fold to the same. Assumes
+-- nothing.
+use Rattle.stream.proofs.Folding.{folded-more, folded-end}
 use Rattle.stream.proofs.roots.fold.Goals as goal
 
-pub loop-i-preserved : goal.loop-i-preserved
-loop-i-preserved c = let l = c.loop-i in
-    folded_more c.args.roots.now c.args.from c.args.to _ l.node l.i c.loop-i-test.true
-    l.invariant
-    c.front_node.ensures c.parent-above.ensures
+pub loop-root-preserved : goal.loop-root-preserved
+loop-root-preserved c = let l = c.loop-root in
+    folded-more _ c.in-Some.root.now l.node c.in-Some.ensures.steps l.invariant c.parent-above.ensures
 
 pub returns : goal.returns
-returns c = folded-end _ _ _ _ _ _ c.loop-i-test.false c.loop-i.invariant
-
-pub loop-i-init : goal.loop-i-init
-loop-i-init c = folded_start _ _ _ _ c.requires.0
+returns c = folded-end _ c.loop-root.node c.in-None.ensures.steps.0 c.loop-root.invariant

@@ -1,10 +1,12 @@
--- `stream::roots::fold` meets its contract. The invariant: the roots that are left and the node behind them fold to the same. The measure
--- is how many are left. Assumes nothing.
-use Rattle.stream.proofs.Folding.{Folded}
+-- `stream::roots::fold` meets its contract. The invariant: the roots that are left and the node behind them fold to the same. Assumes
+-- nothing.
+use mathlib.Core.List.{[], ◌∷◌, ◌++◌}
+use mathlib.Core.Path.{◌≡◌}
+use Rattle.std.specs.Iterator.Adapters.{rev_source}
+use Rattle.std.specs.Slice.Iter.{iter_rest}
+use Rattle.streamrule.specs.Held.{folded}
 use Rattle.stream.proofs.roots.fold.Given as goal
 
-abbrev pub invariant-loop-i : goal.invariant-loop-i
-invariant-loop-i l = Folded l.roots l.from l.to l.initial.node l.node l.i
-
-abbrev pub decreases-loop-i : goal.decreases-loop-i
-decreases-loop-i l = l.i
+abbrev pub invariant-loop-root : goal.invariant-loop-root
+invariant-loop-root l =
+    folded (iter_rest (rev_source l.root-iterator) ++ (l.node ∷ [])) ≡ folded (l.roots ++ (l.initial.node ∷ []))

@@ -12,7 +12,7 @@ use Rattle.stream.specs.State.{root_room, count_rules}
 use Rattle.stream.proofs.Limits.{few-roots}
 use Rattle.stream.proofs.Soundness.{Counts, counts-hold, bad-counts, bad-roots, by_bytes, zeros-asked}
 use Rattle.stream.proofs.state.is_sound.Goals as goal
-use Rattle.stream.proofs.state.is_sound.Goals.{After-bytes_zero, After-held-end, Else-not-counts}
+use Rattle.stream.proofs.state.is_sound.Goals.{After-all_are, After-held-end, Else-not-counts}
 
 pub returns-then-not-counts : goal.returns-then-not-counts
 returns-then-not-counts c = sym (bad-counts _ (sym c.counts.ensures ∙ c.if-not-counts.true))
@@ -35,44 +35,44 @@ roots-long c = search rules
 bytes-long : (c : After-held-end) → length c.args.stream.bytes ≡ chunk_bytes
 bytes-long c = search rules
 
-roots-asked : (c : After-bytes_zero) →
-    c.bytes_zero.result
+roots-asked : (c : After-all_are) →
+    c.all_are.result
     ≡ all_zero
     (drop (ones c.args.stream.chunks * node_bytes)
     c.args.stream.roots)
 roots-asked c =
     let roots-long' : length c.args.stream.roots ≡ root_room = search rules in
     zeros-asked root_room (c.held-end.result * node_bytes) _ (roots-long') (ap (λ n. n * node_bytes) c.held-end.ensures)
-    c.bytes_zero.ensures
+    c.all_are.ensures
 
-pub returns-then-not-bytes_zero : goal.returns-then-not-bytes_zero
-returns-then-not-bytes_zero c =
-    sym (bad-roots _ (counted (goal.at.returns-then-not-bytes_zero c).Else-not-counts)
-    (sym (roots-asked (goal.at.returns-then-not-bytes_zero c).After-bytes_zero) ∙ c.if-not-bytes_zero.true))
+pub returns-then-not-all_are : goal.returns-then-not-all_are
+returns-then-not-all_are c =
+    sym (bad-roots _ (counted (goal.at.returns-then-not-all_are c).Else-not-counts)
+    (sym (roots-asked (goal.at.returns-then-not-all_are c).After-all_are) ∙ c.if-not-all_are.true))
 
 pub returns : goal.returns
 returns c = let s = c.args.stream in
-    zeros-asked chunk_bytes s.further s.bytes (bytes-long (goal.at.returns c).After-held-end) refl c.bytes_zero-2.ensures
+    zeros-asked chunk_bytes s.further s.bytes (bytes-long (goal.at.returns c).After-held-end) refl c.all_are-2.ensures
     ∙ sym (by_bytes _ (counted (goal.at.returns c).Else-not-counts)
-    (sym (roots-asked (goal.at.returns c).After-bytes_zero) ∙ c.if-not-bytes_zero.false))
+    (sym (roots-asked (goal.at.returns c).After-all_are) ∙ c.if-not-all_are.false))
 
 pub overflow_mul-end : goal.overflow_mul-end
 overflow_mul-end c = record { fits = omega (arith, few c) }
 
-pub slice_bounds-bytes_zero-count : goal.slice_bounds-bytes_zero-count
-slice_bounds-bytes_zero-count c = omega (arith, few c)
+pub slice_bounds-all_are-count : goal.slice_bounds-all_are-count
+slice_bounds-all_are-count c = omega (arith, few c)
 
-pub slice_bounds-bytes_zero-start : goal.slice_bounds-bytes_zero-start
-slice_bounds-bytes_zero-start c = omega (arith, few c)
+pub slice_bounds-all_are-start : goal.slice_bounds-all_are-start
+slice_bounds-all_are-start c = omega (arith, few c)
 
-pub slice_bounds-bytes_zero-end : goal.slice_bounds-bytes_zero-end
-slice_bounds-bytes_zero-end c = omega (arith, few c, roots-long c)
+pub slice_bounds-all_are-end : goal.slice_bounds-all_are-end
+slice_bounds-all_are-end c = omega (arith, few c, roots-long c)
 
-pub slice_bounds-bytes_zero-count-2 : goal.slice_bounds-bytes_zero-count-2
-slice_bounds-bytes_zero-count-2 c = omega (arith, (bounds (goal.at.slice_bounds-bytes_zero-count-2 c).Else-not-counts).short)
+pub slice_bounds-all_are-count-2 : goal.slice_bounds-all_are-count-2
+slice_bounds-all_are-count-2 c = omega (arith, (bounds (goal.at.slice_bounds-all_are-count-2 c).Else-not-counts).short)
 
-pub slice_bounds-bytes_zero-start-2 : goal.slice_bounds-bytes_zero-start-2
-slice_bounds-bytes_zero-start-2 c = omega (arith, (bounds (goal.at.slice_bounds-bytes_zero-start-2 c).Else-not-counts).short)
+pub slice_bounds-all_are-start-2 : goal.slice_bounds-all_are-start-2
+slice_bounds-all_are-start-2 c = omega (arith, (bounds (goal.at.slice_bounds-all_are-start-2 c).Else-not-counts).short)
 
-pub slice_bounds-bytes_zero-end-2 : goal.slice_bounds-bytes_zero-end-2
-slice_bounds-bytes_zero-end-2 c = omega (arith, bytes-long (goal.at.slice_bounds-bytes_zero-end-2 c).After-held-end)
+pub slice_bounds-all_are-end-2 : goal.slice_bounds-all_are-end-2
+slice_bounds-all_are-end-2 c = omega (arith, bytes-long (goal.at.slice_bounds-all_are-end-2 c).After-held-end)

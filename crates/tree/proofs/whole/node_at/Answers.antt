@@ -1,18 +1,11 @@
--- `tree::whole::node_at` meets its contract: the part is as long as the node that it fills. Assumes nothing.
-use Prim.Native.Nat.{ℕ, ◌+◌, ◌-◌, ◌*◌}
-use mathlib.Core.Path.{◌≡◌, sym, ap, ◌∙◌}
-use native.Mathlib.Nat.{add-sub_cancel_left}
-use native.Mathlib.Omega.{arith}
-use lib.ListN.{length, take, drop, length-take, length-drop}
+-- `tree::whole::node_at` meets its contract: what the bytes from there on begin with. Assumes nothing.
+use Prim.Native.Nat.{◌*◌}
+use mathlib.Core.Path.{ap, ◌∙◌}
+use lib.ListN.{take}
+use Rattle.slices.proofs.Parts.{part-all}
 use Rattle.treerule.specs.Root.{node_bytes}
-use Rattle.slices.proofs.AtFront.{at_front-all}
 use Rattle.tree.proofs.whole.node_at.Goals as goal
 
 pub returns : goal.returns
-returns c = let at = c.args.i * node_bytes in
-    let nodes = c.args.nodes.now in
-    let node = take (at + node_bytes - at) (drop at nodes) in
-    let long : node_bytes ≡ length node = sym (simp (length-take, length-drop) (omega (arith, c.requires))) in
-    c.put_front.ensures
-    ∙ at_front-all node _ long
-    ∙ ap (λ (n : ℕ). take n (drop at nodes)) (add-sub_cancel_left at node_bytes)
+returns c = let first = rw c.unwrap.ensures at c.first_chunk.ensures.cases in
+    first.same ∙ ap (take node_bytes) (part-all (c.args.i * node_bytes) c.args.nodes.now)

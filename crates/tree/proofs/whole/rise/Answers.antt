@@ -20,7 +20,7 @@ slice_bounds-level-end-in-loop-left c =
 pub loop-left-preserved : goal.loop-left-preserved
 loop-left-preserved c = let l = c.loop-left in
     climbed-more c.args.nodes.now c.args.count l.nodes l.left c.requires.1
-    c.loop-left-test.true l.invariant c.level.ensures
+    c.loop-left-test.true l.invariant c.level.ensures (omega arith)
 
 pub returns : goal.returns
 returns c = climbed-all _ _ _ _ c.loop-left-test.false c.loop-left.invariant

@@ -1,5 +1,5 @@
--- `writer::moving::raise` meets its contract. It runs from the last entry to the first: before `at` the bytes are as they were, and from
--- there on stand the n - i last entries, raised. The measure is i. An offset has four bytes, so no sum passes a word.
+-- `writer::moving::raise` meets its contract. It runs from the last entry to the first: before entry i the bytes are as they were, and
+-- from there on stand the n - i last entries, raised. An offset has four bytes, so no sum passes a word.
 use mathlib.Core.List.{List, ◌++◌, append-nil}
 use mathlib.Core.Path.{◌≡◌, sym, ap, ◌∙◌}
 use Prim.Native.Nat.{ℕ, suc, ◌+◌, ◌-◌, ◌*◌, ◌^◌, ◌<◌, ◌≤◌}
@@ -19,52 +19,48 @@ use Rattle.writer.proofs.MoveLaws.{length-raised, offset-kept, raised-more}
 use Rattle.writer.proofs.moving.raise.Goals as goal
 use Rattle.writer.proofs.moving.raise.Invariants.{Raising}
 
-start : (xs : List ℕ) (n size by : ℕ) → offset_size ≤ size → length xs ≡ n * size → Raising xs n size by xs (length xs) n
+start : (xs : List ℕ) (n size by : ℕ) → offset_size ≤ size → length xs ≡ n * size → Raising xs n size by xs n
 unfolding raised
 start xs n size by p e = record {
   wide = p;
   long = e;
   within = omega arith;
-  place = e;
-  bytes = rw (sub_self, take-length, drop-length) (sym (append-nil xs));
+  bytes = rw (← e, sub_self, take-length, drop-length) (sym (append-nil xs));
 }
 
-module _ (xs₀ : List ℕ) (n size by : ℕ) (xs : List ℕ) (at i : ℕ) (f : Raising xs₀ n size by xs at i) where
-  behind : at + (n - i) * size ≡ length xs₀
+module _ (xs₀ : List ℕ) (n size by : ℕ) (xs : List ℕ) (i : ℕ) (f : Raising xs₀ n size by xs i) where
+  behind : i * size + (n - i) * size ≡ length xs₀
   behind =
-      let e : i + (n - i) ≡ n = omega arith in
-      rw (f.place, ← add-mul i (n - i) size, e) (sym f.long)
+      let e : i + (n - i) ≡ n = omega (arith, f.within) in
+      rw (← add-mul i (n - i) size, e) (sym f.long)
 
   size-kept : length xs ≡ length xs₀
   size-kept =
-      let rest : (n - i) * size ≤ length (drop at xs₀) = simp length-drop (omega (arith, behind)) in
+      let rest : (n - i) * size ≤ length (drop (i * size) xs₀) = simp length-drop (omega (arith, behind)) in
       rw (
         f.bytes,
         length-append,
-        length-raised (n - i) size by (drop at xs₀) f.wide rest,
-        length-drop at xs₀,
-        length-take-le at xs₀ (omega (arith, behind)),
+        length-raised (n - i) size by (drop (i * size) xs₀) f.wide rest,
+        length-drop (i * size) xs₀,
+        length-take-le (i * size) xs₀ (omega (arith, behind)),
       ) (omega (arith, behind))
 
   whole : i ≡ 0 → xs ≡ raised n size by xs₀
   whole e =
-      let none : at ≡ 0 = f.place ∙ rw e (zero-mul size) in
+      let none : i * size ≡ 0 = rw e (zero-mul size) in
       let all : n - i ≡ n = omega arith in
       rw (none, all) at f.bytes
 
   -- one entry more
   module _ (h : 0 < i) where
     abbrev a : ℕ
-    a = at - size
+    a = (i - 1) * size
 
     one_less : i ≡ suc (i - 1)
     one_less = omega arith
 
-    here : a ≡ (i - 1) * size
-    here = omega (arith, f.place ∙ ap (λ (k : ℕ). k * size) one_less, suc-mul (i - 1) size)
-
-    next : a + size ≡ at
-    next = omega (arith, f.place ∙ ap (λ (k : ℕ). k * size) one_less, suc-mul (i - 1) size)
+    next : a + size ≡ i * size
+    next = omega (arith, ap (λ (k : ℕ). k * size) one_less, suc-mul (i - 1) size)
 
     done : xs ≡ take (a + size) xs₀ ++ raised (n - i) size by (drop (a + size) xs₀)
     done = rw next f.bytes
@@ -81,7 +77,7 @@ module _ (xs₀ : List ℕ) (n size by : ℕ) (xs : List ℕ) (at i : ℕ) (f : 
 
     turn : (v : ℕ) (new : List ℕ) → Bytes xs₀ → v ≡ word64 (field_in xs a offset_size) →
         new ≡ be (length (part xs a (a + offset_size - a))) (v + by) →
-        Raising xs₀ n size by (put_part a (a + offset_size - a) new xs) a (i - 1)
+        Raising xs₀ n size by (put_part a (a + offset_size - a) new xs) (i - 1)
     turn v new b e q =
         let k : a + offset_size - a ≡ offset_size = add-sub_cancel_left a offset_size in
         let room : length (part xs a offset_size) ≡ offset_size = length_part a offset_size xs (omega (arith, size-kept, inside, f.wide)) in
@@ -91,38 +87,20 @@ module _ (xs₀ : List ℕ) (n size by : ℕ) (xs : List ℕ) (at i : ℕ) (f : 
           wide = f.wide;
           long = f.long;
           within = omega arith;
-          place = here;
           bytes = rw (k, is, more) (raised-more a (n - i) size by xs₀ xs f.wide inside done);
         }
 
 pub loop-i-init : goal.loop-i-init
 loop-i-init c = start _ _ _ _ (omega (arith, c.requires.0)) c.requires.1
 
-pub overflow_sub-at : goal.overflow_sub-at
-overflow_sub-at c = omega (arith, next _ _ _ _ _ _ _ c.loop-i.invariant c.loop-i-test.true)
-
-pub overflow_add-at : goal.overflow_add-at
-overflow_add-at c = let f = c.loop-i.invariant in
-    omega (arith, inside _ _ _ _ _ _ _ f c.loop-i-test.true, f.wide)
-
-pub slice_bounds-put-end : goal.slice_bounds-put-end
-slice_bounds-put-end c = let f = c.loop-i.invariant in
-    omega (arith, inside _ _ _ _ _ _ _ f c.loop-i-test.true, f.wide, size-kept _ _ _ _ _ _ _ f)
-
 pub overflow_add-offset : goal.overflow_add-offset
 overflow_add-offset c = omega (
   arith,
-  offset-small _ _ _ _ _ _ _ c.loop-i.invariant c.loop-i-test.true _ (λ k. (c.slice_known-1.given k).fits)
+  offset-small _ _ _ _ _ _ c.loop-i.invariant c.loop-i-test.true _ (λ k. (c.slice_known-1.given k).fits)
       c.field-offset.ensures,
   c.requires.2,
 )
 
 pub loop-i-preserved : goal.loop-i-preserved
-loop-i-preserved c = turn _ _ _ _ _ _ _ c.loop-i.invariant c.loop-i-test.true _ _ (λ k. (c.slice_known-1.given k).fits)
+loop-i-preserved c = turn _ _ _ _ _ _ c.loop-i.invariant c.loop-i-test.true _ _ (λ k. (c.slice_known-1.given k).fits)
     c.field-offset.ensures c.put.ensures
-
-pub shape_of-entries : goal.shape_of-entries
-shape_of-entries c = size-kept _ _ _ _ _ _ _ c.loop-i.invariant
-
-pub returns : goal.returns
-returns c = whole _ _ _ _ _ _ _ c.loop-i.invariant (omega arith)

@@ -1,7 +1,0 @@
--- The short form of Ch makes the standard's word, for all words below 2^32. Assumes nothing.
-use Rattle.fips.specs.Words.{w32}
-use Rattle.blockrule.proofs.Forms.{ch-short}
-use Rattle.block32.proofs.ch.Goals as goal
-
-pub returns : goal.returns
-returns c = ch-short w32 c.ranges.x.fits c.ranges.y.fits c.ranges.z.fits

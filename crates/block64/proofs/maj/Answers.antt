@@ -1,7 +1,0 @@
--- The short form of Maj makes the standard's word, for all words below 2^64. Assumes nothing.
-use Rattle.fips.specs.Words.{w64}
-use Rattle.blockrule.proofs.Forms.{maj-short}
-use Rattle.block64.proofs.maj.Goals as goal
-
-pub returns : goal.returns
-returns c = maj-short w64 c.ranges.x.fits c.ranges.y.fits c.ranges.z.fits
