@@ -29,7 +29,7 @@
  *
  * Stack: dw_tree takes up to 36,784 bytes of it, dw_stream_add 11,440, dw_stream_root 7,840, dw_stream_begin 4,224, dw_check_tag 3,504,
  * dw_tag 3,488, dw_keyed_add 3,504, dw_keyed_tag 3,424, dw_keyed_check 3,424, dw_keyed_start 2,928, dw_add 2,896, dw_close 2,816,
- * dw_hash 2,512, dw_load 1,864, dw_save 1,480, dw_ask 1,144, dw_open 776, dw_judge 464, dw_lookup 440, dw_list_put 432, dw_drop 176,
+ * dw_hash 2,512, dw_load 1,864, dw_save 1,480, dw_ask 1,144, dw_open 768, dw_judge 464, dw_lookup 440, dw_list_put 416, dw_drop 176,
  * dw_lay_out 48 and dw_list_start 32: measured on x86-64 and on Arm, the larger of both, but those of the calls with a key, of dw_add,
  * dw_open, dw_load, dw_save, dw_drop, dw_judge, dw_lookup, dw_list_put and dw_lay_out on x86-64 alone. A thread with a small stack has to
  * have as much to spare; four macros below have it in round numbers.

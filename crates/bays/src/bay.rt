@@ -38,8 +38,15 @@ pub(crate) fn pack(bay: &mut [u64], half: HalfRead)
     requires { length bay.old ≡ bay_words }
     ensures { bay.new ≡ bay_of half }
 {
-    bay[EDITION] = half.edition;
-    bay[COUNT] = half.count;
-    put_front(&mut bay[CHAIN..TAIL], &half.words);
-    bigendian::get_words(&mut bay[TAIL..], &half.tail, 8);
+    // field by field: lent out of `half`, they would have all of it copied first
+    let HalfRead {
+        edition,
+        count,
+        words,
+        tail,
+    } = half;
+    bay[EDITION] = edition;
+    bay[COUNT] = count;
+    put_front(&mut bay[CHAIN..TAIL], &words);
+    bigendian::get_words(&mut bay[TAIL..], &tail, 8);
 }

@@ -13,7 +13,7 @@ use crate::table::place;
 use answers::{Answer, Refusal};
 use halfread::HalfRead;
 use halfread::sound::is_sound;
-use slices::zero::{all_are, clear};
+use slices::zero::{clear, words_zero};
 
 // The words of a bay, behind the gate.
 fn words_at(table: &[u64], bay: u64) -> Result<&[u64; WORDS], Refusal>
@@ -28,7 +28,7 @@ fn words_at(table: &[u64], bay: u64) -> Result<&[u64; WORDS], Refusal>
 pub fn gate_taken(table: &[u64], bay: u64) -> Answer
     ensures { number_of result ≡ first (taken_tests table.now bay) }
 {
-    if all_are(words_at(table, bay)?, 0) {
+    if words_zero(words_at(table, bay)?) {
         return Err(Refusal::BayEmpty);
     }
     Ok(())
@@ -39,7 +39,7 @@ pub fn gate_free(table: &[u64], bay: u64) -> Answer
     ensures { number_of result ≡ first (free_tests table.now bay) }
 {
     let words = words_at(table, bay)?;
-    if all_are(words, 0) {
+    if words_zero(words) {
         return Ok(());
     }
     if is_sound(unpack(words)) {
@@ -53,7 +53,7 @@ pub fn taken_at(table: &[u64], bay: u64) -> Result<HalfRead, Refusal>
     ensures { Judged (taken_tests table.now bay) blank (half_at table.now bay) (number_of result) (handed blank result) }
 {
     let words = words_at(table, bay)?;
-    if all_are(words, 0) {
+    if words_zero(words) {
         return Err(Refusal::BayEmpty);
     }
     Ok(unpack(words))
@@ -65,7 +65,7 @@ pub fn sound_at(table: &[u64], bay: u64) -> Result<HalfRead, Refusal>
 {
     let words = words_at(table, bay)?;
     let half = unpack(words);
-    if all_are(words, 0) {
+    if words_zero(words) {
         return Ok(half);
     }
     if !is_sound(half) {

@@ -34,8 +34,11 @@ pub fn add(table: &mut [u64], bay: u64, piece: &[u8]) -> Answer
     ensures outcome { Outcome table.old (Call.adding bay piece.now) (number_of result) table.new [] }
     ensures lends { Lends table.old (Call.adding bay piece.now) }
 {
-    let half = taken_at(table, bay)?;
-    let next = halfread::add::add(half, piece)?;
+    // each answer by a name: without, what the first hands out is copied once more
+    let taken = taken_at(table, bay);
+    let half = taken?;
+    let added = halfread::add::add(half, piece);
+    let next = added?;
     put_at(table, bay, next);
     Ok(())
 }

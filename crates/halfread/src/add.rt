@@ -21,23 +21,30 @@ fn with_piece(half: HalfRead, piece: &[u8]) -> HalfRead
     ensures { result ≡ added half piece.now }
 {
     let edition = half.edition;
+    let count = half.count + piece.len() as u64;
     let size = block_bytes(edition);
     let from = tail_length(edition, half.count);
-    let mut next = half;
-    next.count += piece.len() as u64;
     // what the begun block lacks: nothing where none is begun
     let lead = (size - from) % size;
-    put_front(&mut next.tail[from..], piece);
+    let mut tail = half.tail;
+    put_front(&mut tail[from..], piece);
     if piece.len() < lead {
-        return next;
+        return HalfRead {
+            count,
+            tail,
+            ..half
+        };
     }
     let end = from + lead;
-    let filled = absorb(edition, half.words, &next.tail[..end]);
+    let filled = absorb(edition, half.words, &tail[..end]);
     let rest = &piece[lead..];
-    next.words = absorb(edition, filled, rest);
     let whole = slices::places::rest_at(rest.len(), size);
-    next.tail = padded(&rest[whole..]);
-    next
+    HalfRead {
+        edition,
+        count,
+        words: absorb(edition, filled, rest),
+        tail: padded(&rest[whole..]),
+    }
 }
 
 pub fn add(half: HalfRead, piece: &[u8]) -> Result<HalfRead, Refusal>

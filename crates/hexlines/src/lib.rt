@@ -103,7 +103,7 @@ pub fn decimal(s: &[u8]) -> Option<u64>
 }
 
 // How many lines were judged, and how many of them hold.
-#[derive(Clone, Copy, Default)]
+#[derive(Clone, Copy, Debug, Default, PartialEq, Eq)]
 pub struct Tally {
     pub lines: u64,
     pub passed: u64,

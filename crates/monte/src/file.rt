@@ -1,4 +1,6 @@
 // The file of Monte Carlo vectors, which is read whole: how many lines it has, and how many of them hold.
+ghost use Rattle.std.specs.Prelude.{◌≤◌, length, IfOk};
+
 use hexlines::Tally;
 use std::fs::{File, Files};
 use std::io::{self, ErrorKind, Read};
@@ -15,7 +17,9 @@ fn all(text: &[u8]) -> Tally {
 }
 
 // Reads until the buffer is full or the file ends, and answers what came. A read that a signal interrupts is made again.
-fn filled<'a, R: Read>(from: &mut R, buffer: &'a mut [u8]) -> io::Result<&'a [u8]> {
+fn filled<'a, R: Read>(from: &mut R, buffer: &'a mut [u8]) -> io::Result<&'a [u8]>
+    ensures { IfOk result (λ came. length came.now ≤ length buffer.old) }
+{
     let mut n = 0;
     for _ in 0..u64::MAX {
         match from.read(&mut buffer[n..]) {

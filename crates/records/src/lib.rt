@@ -1,4 +1,4 @@
-// The saved record: SPEC, "The saved record". Whole from a state and saved; its fields read back and loaded.
+// The saved record: SPEC, "The saved record". Written from a state and saved; its fields read back and loaded.
 #![tactic(auto)]
 
 ghost use Rattle.std.specs.Prelude.{◌≡◌, ◌≤◌, ℕ, List, length, take};
@@ -99,15 +99,20 @@ fn record_of(half: &HalfRead) -> Whole
         len as u64,
         0,
     ];
-    let mut buffer = [0u8; LONGEST];
-    put_row(&mut buffer, &sizes, &values);
+    // written where it stays: a buffer that is put in at the end is copied
+    let mut whole = Whole {
+        buffer: [0u8; LONGEST],
+        len,
+    };
+    let buffer = &mut whole.buffer;
+    put_row(buffer, &sizes, &values);
     bigendian::put_words(
         &mut buffer[WORDS_AT..],
         &half.words,
         block_bytes(edition) / 16,
     );
     put_front(&mut buffer[at..], &half.tail[..end]);
-    Whole { buffer, len }
+    whole
 }
 
 pub fn save(half: HalfRead, out: &mut [u8]) -> Answer

@@ -1,18 +1,27 @@
 -- Writing at the front of an output: laws of `at_front`. As many as both have, copied over the front, are it (`front-copied`). What is
 -- behind stays (`drop-front`), so that of two writings of one length the later counts (`front-again`).
-use Prim.Native.Nat.{ℕ, zero, suc, ◌+◌, ◌-◌, ◌≤◌, min}
+use Prim.Native.Nat.{ℕ, zero, suc, ◌+◌, ◌-◌, ◌≤◌, ◌<◌, min}
 use mathlib.Core.Bool.{Bool, true, false}
-use mathlib.Core.List.{List, ◌∷◌, ◌++◌, append-nil}
+use mathlib.Core.List.{List, [], ◌∷◌, ◌++◌, append-nil}
 use mathlib.Core.Path.{◌≡◌, refl, sym, ap, ap₂, ◌∙◌}
 use native.Mathlib.Nat.{not-suc-le-zero, le_of_suc-le-suc, sub-zero, zero-sub, suc-sub-suc}
 use native.Mathlib.Omega.{arith}
 use borrow.Author.Tests.{leb-true, leb-false}
 use lib.Dec.{leb}
-use lib.ListN.{length, take, drop, length-append, length-take, length-drop, replicate, drop_of_length-le}
-use lib.Seq.{take_all, take-length, drop-length, drop_at}
+use lib.ListN.{length, take, drop, set, get_or, length-append, length-take, length-drop, replicate, drop_of_length-le}
+use lib.Seq.{take_all, take-length, drop-length, drop_at, take-suc, drop-cons, set_at, append_snoc, length-take-le}
 use Rattle.slices.specs.AtFront.{at_front}
 use Rattle.slices.specs.Below.{Below}
 use Rattle.slices.proofs.Below.{below-append, below-take, below-drop}
+
+-- one element more is copied
+pub one-copied : {A : Type 0} (new out : List A) (i : ℕ) (x : A) → i < length out → i < length new → x ≡ get_or new i x →
+    set (take i new ++ drop i out) i x ≡ take (suc i) new ++ drop (suc i) out
+one-copied new out i x h k e =
+    rw (drop-cons out i x h)
+    (set_at (take i new) (get_or out i x) (drop (suc i) out) x i (length-take-le i new (omega arith))
+    ∙ sym (append_snoc (take i new) x (drop (suc i) out))
+    ∙ ap (λ l. l ++ drop (suc i) out) (ap (λ y. take i new ++ (y ∷ [])) e ∙ sym (take-suc new i x k)))
 
 -- as many as both have, copied over the front
 pub front-copied : {A : Type 0} (n : ℕ) (new out : List A) → n ≡ min (length out) (length new) →

@@ -22,6 +22,8 @@ use Rattle.slices.specs.contracts.same.same as same
 use Rattle.slices.proofs.same.same.Reads as same-reads
 use Rattle.slices.specs.contracts.zero.all_are as all-are
 use Rattle.slices.proofs.zero.all_are.Reads as all-are-reads
+use Rattle.slices.specs.contracts.zero.words_zero as words-zero
+use Rattle.slices.proofs.zero.words_zero.Reads as words-zero-reads
 use Rattle.slices.specs.contracts.zero.clear as clear
 use Rattle.slices.proofs.zero.clear.Reads as clear_reads
 use Rattle.slices.specs.contracts.front.put_front as put_front
@@ -72,11 +74,6 @@ pub bytes-zero-settled : (D : Dict) (K : Clone.Ghosts ℕ) (F : Dict) →
     (all-are-reads.Learnt u8-field.row byte-laws byte-copies bytes.ghosts D K F) (λ κs r x. r)
 bytes-zero-settled D K F = all-are-settled u8-field.row byte-laws byte-copies bytes.ghosts D K F
 
-pub words-zero-settled : (D : Dict) (K : Clone.Ghosts ℕ) (F : Dict) →
-    Settles (all-are.ended u64-field.row words.ghosts D K F)
-    (all-are-reads.Learnt u64-field.row word-laws word-copies words.ghosts D K F) (λ κs r x. r)
-words-zero-settled D K F = all-are-settled u64-field.row word-laws word-copies words.ghosts D K F
-
 pub put-front-settled : (T : RattleType) (L : Laws T) (C : IsCopy T) (K : Clone.Ghosts T.Denot) (F : Dict) →
     Settles (put_front.ended T K F) (put-front-reads.Learnt T L C K F) (λ κs r x. x.0.now)
 put-front-settled T L C K F κs a r s x y = value-settled
@@ -86,6 +83,9 @@ pub put-words-front-settled : (K : Clone.Ghosts ℕ) (F : Dict) →
 put-words-front-settled K F = put-front-settled u64-field.row word-laws word-copies K F
 
 -- ---- the others
+
+pub words-zero-settled : Settles words-zero.ended words-zero-reads.Learnt (λ κs r x. r)
+words-zero-settled κs a r s x y = value-settled
 
 pub clear-settled : Settles clear.ended clear_reads.Learnt (λ κs r x. x.0.now)
 clear-settled κs a r s x y = value-settled

@@ -10,6 +10,8 @@ use lib.Dec.{ltb, eqb}
 use lib.ListN.{length, get_or, drop, replicate, drop_of_length-le}
 use lib.Seq.{drop-cons}
 use borrow.Author.Tests.{lt-ltb, ltb-true, eq-eqb, eqb-true}
+use Rattle.std.specs.Bool.{MatchBool}
+use Rattle.std.specs.List.{AllWithin, HoldsAt}
 use Rattle.slices.specs.Below.{Below}
 use Rattle.slices.specs.Tests.{holds, every, all_below, all_zero, same, same_by}
 use Rattle.slices.proofs.Below.{below-nil, below-cons}
@@ -74,6 +76,17 @@ module _ {A : Type 0} (p : A → Bool) (d : A) where
   unfolding every
   at_every [] h = refl
   at_every (x ∷ xs) h = rw (h 0 (omega arith)) (at_every xs (λ i k. h (suc i) (omega arith)))
+
+-- what an iterator finds of all is what the test says
+pub every-found : (p : ℕ → Bool) (xs : List ℕ) (r : Bool) →
+    MatchBool r (AllWithin (λ x. p x ≡ true) xs 0 (length xs)) ((k : ℕ) × (k < length xs) × HoldsAt (λ x. p x ≡ false) xs k) →
+    r ≡ every p xs
+every-found p xs true all = sym (at_every p 0 xs (λ i h. all i 0 (omega arith) h))
+every-found p xs false one = go (every p xs) refl
+  where
+    go : (b : Bool) → every p xs ≡ b → false ≡ b
+    go true e = sym (one.2 0) ∙ every-at p 0 xs e one.0 one.1
+    go false e = refl
 
 pub and-true : (b : Bool) → (b && true) ≡ b
 and-true true = refl

@@ -6,8 +6,9 @@ ghost use Rattle.slices.specs.Padded.{padded};
 pub fn put_front<T: Copy>(out: &mut [T], items: &[T])
     ensures { out.new ≡ at_front items.now out.old }
 {
-    let n = out.len().min(items.len());
-    out[..n].copy_from_slice(&items[..n]);
+    for i in 0..out.len().min(items.len()) {
+        out[i] = items[i];
+    }
 }
 
 // The bytes with zeros behind them, N in all; of more bytes, the first.

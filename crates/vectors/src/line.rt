@@ -57,7 +57,8 @@ impl Claim<'_> {
     fn holds_of_text(&self, text: &[u8]) -> bool {
         match text {
             b"-" => self.holds_of(b""),
-            b"a*1000000" => self.holds_of_million(),
+            // the letters are made for a line that claims as many bits alone
+            b"a*1000000" => self.bits == 8_000_000 && self.holds_of_million(),
             _ => self.holds_of_hex(text),
         }
     }

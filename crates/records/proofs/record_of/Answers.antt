@@ -36,8 +36,8 @@ returns c = let h = c.args.half.now in
     c.block_bytes.ensures c.put_words.ensures
     c.tail_at-at.ensures c.tail_length-end.ensures c.put_front.ensures)
 
-pub slice_bounds-buffer-start-2 : goal.slice_bounds-buffer-start-2
-slice_bounds-buffer-start-2 c = at-within (goal.at.slice_bounds-buffer-start-2 c).After-tail_at-at
+pub slice_bounds-put_front-start : goal.slice_bounds-put_front-start
+slice_bounds-put_front-start c = at-within (goal.at.slice_bounds-put_front-start c).After-tail_at-at
 
 pub slice_bounds-put_front-count : goal.slice_bounds-put_front-count
 slice_bounds-put_front-count c = at-within (goal.at.slice_bounds-put_front-count c).After-tail_at-at
@@ -46,8 +46,8 @@ pub shared_ref_as_front-put_front : goal.shared_ref_as_front-put_front
 shared_ref_as_front-put_front c = let small : c.tail_length-end.result < tail_room = rest-within _ _ c.tail_length-end.ensures in
     omega (arith, wide (goal.at.shared_ref_as_front-put_front c).After-tail_length-end)
 
-pub invariant_of-result : goal.invariant_of-result
-invariant_of-result c = let r = c.put_row in
+pub invariant_of-whole : goal.invariant_of-whole
+invariant_of-whole c = let r = c.put_row in
     let w = c.put_words in
     let p = c.put_front in
     let at = c.tail_at-at.result in

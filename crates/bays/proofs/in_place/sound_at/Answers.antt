@@ -12,20 +12,20 @@ pub returns-in_err-words : goal.returns-in_err-words
 returns-in_err-words c =
     passed-judged c.from_residual.result _ c.from_residual.ensures.1 (gate-refuses _ _ _ _ c.in_err-words.ensures.answer)
 
-pub returns-then-all_are : goal.returns-then-all_are
-returns-then-all_are c = let w = c.in_ok-words.ensures in
-    done (sym (sound-first _ _ w.answer (sound_bay-empty _ (zero-empty _ _ w.value c.if-all_are.ensures))))
+pub returns-then-words_zero : goal.returns-then-words_zero
+returns-then-words_zero c = let w = c.in_ok-words.ensures in
+    done (sym (sound-first _ _ w.answer (sound_bay-empty _ (zero-empty _ _ w.value c.if-words_zero.ensures))))
     (c.unpack-half.ensures ∙ ap half_of w.value)
 
 pub returns-then-not-is_sound : goal.returns-then-not-is_sound
 returns-then-not-is_sound c = let w = c.in_ok-words.ensures in
     refused (sym (unsound-first _ _ w.answer
-    (sound_bay-taken _ (zero-empty _ _ w.value c.if-all_are.ensures)
+    (sound_bay-taken _ (zero-empty _ _ w.value c.if-words_zero.ensures)
     ∙ sym (c.if-not-is_sound.ensures ∙ ap sound (c.unpack-half.ensures ∙ ap half_of w.value))))) tt refl
 
 pub returns : goal.returns
 returns c = let w = c.in_ok-words.ensures in
     done (sym (sound-first _ _ w.answer
-    (sound_bay-taken _ (zero-empty _ _ w.value c.if-all_are.ensures)
+    (sound_bay-taken _ (zero-empty _ _ w.value c.if-words_zero.ensures)
     ∙ sym (c.if-not-is_sound.ensures ∙ ap sound (c.unpack-half.ensures ∙ ap half_of w.value)))))
     (c.unpack-half.ensures ∙ ap half_of w.value)

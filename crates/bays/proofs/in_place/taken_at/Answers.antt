@@ -10,10 +10,10 @@ pub returns-in_err-words : goal.returns-in_err-words
 returns-in_err-words c =
     passed-judged c.from_residual.result _ c.from_residual.ensures.1 (gate-refuses _ _ _ _ c.in_err-words.ensures.answer)
 
-pub returns-then-all_are : goal.returns-then-all_are
-returns-then-all_are c = let w = c.in_ok-words.ensures in
-    refused (sym (taken-empty _ _ w.answer (zero-empty _ _ w.value c.if-all_are.ensures))) tt refl
+pub returns-then-words_zero : goal.returns-then-words_zero
+returns-then-words_zero c = let w = c.in_ok-words.ensures in
+    refused (sym (taken-empty _ _ w.answer (zero-empty _ _ w.value c.if-words_zero.ensures))) tt refl
 
 pub returns : goal.returns
 returns c = let w = c.in_ok-words.ensures in
-    done (sym (taken-full _ _ w.answer (zero-empty _ _ w.value c.if-all_are.ensures))) (c.unpack.ensures ∙ ap half_of w.value)
+    done (sym (taken-full _ _ w.answer (zero-empty _ _ w.value c.if-words_zero.ensures))) (c.unpack.ensures ∙ ap half_of w.value)

@@ -1,11 +1,13 @@
 -- `halfread::add::with_piece` meets its contract: the begun block is filled or not, and the two laws of Filling say what comes out.
 -- Assumes nothing.
-use Prim.Native.Nat.{ℕ, ◌+◌, ◌-◌, ◌≤◌, ◌<◌}
+use Prim.Native.Nat.{ℕ, ◌+◌, ◌-◌, ◌*◌, ◌/◌, ◌≤◌, ◌<◌}
 use mathlib.Core.Bool.{true}
 use mathlib.Core.List.{List, ◌++◌}
-use mathlib.Core.Path.{◌≡◌}
+use mathlib.Core.Path.{◌≡◌, sym, ap}
+use native.Mathlib.Nat.{div-mul-le_self}
 use native.Mathlib.Omega.{arith}
 use lib.ListN.{length, take, drop}
+use lib.Seq.{length-take-le}
 use borrow.Author.Rules.{rules}
 use Rattle.halfread.specs.State.{padded, sound, tail_room}
 use Rattle.halfread.specs.Steps.{waiting}
@@ -14,8 +16,9 @@ use Rattle.slices.proofs.Blocks.{lack, lack-whole}
 use Rattle.halfread.proofs.Filling.{filled, fills-short, fills-long}
 use Rattle.halfread.proofs.Rules.{tail-lt, tail_within}
 use Rattle.fips.proofs.Sizes.{block-some, block_within}
+use Rattle.halfread.proofs.Tails.{length-padded}
 use Rattle.halfread.proofs.add.with_piece.Goals as goal
-use Rattle.halfread.proofs.add.with_piece.Goals.{After-put_front, After-tail_length-from, Else-piece-lead}
+use Rattle.halfread.proofs.add.with_piece.Goals.{After-put_front, After-tail_length-from}
 
 is-sound : (c : After-tail_length-from) → sound c.args.half ≡ true
 is-sound c = c.requires.0
@@ -32,13 +35,16 @@ from-lt c = omega (arith, c.block_bytes-size.ensures, c.tail_length-from.ensures
 from-within : (c : After-tail_length-from) → c.tail_length-from.result ≤ tail_room
 from-within c = omega (arith, c.tail_length-from.ensures, tail_within c.args.half)
 
+pub slice_bounds-tail-end : goal.slice_bounds-tail-end
+slice_bounds-tail-end c = omega (arith, wide (goal.at.slice_bounds-tail-end c).After-tail_length-from)
+
 -- the tail with the piece behind its bytes
 
 joined : (c : After-put_front) → List ℕ
 joined c =
     let t = c.args.half.tail in
     let n = c.tail_length-from.result in
-    take n t ++ (c.put_front.new.out ++ drop (length t - n) (drop n t))
+    take n t ++ (c.put_front.new.out ++ drop (tail_room - n) (drop n t))
 
 is-joined : (c : After-put_front) → joined c ≡ padded (waiting c.args.half c.args.piece.now)
 unfolding joined
@@ -46,7 +52,7 @@ is-joined c =
     let wide' : length c.args.half.tail ≡ tail_room = search rules in
     let is-sound' : sound c.args.half ≡ true = c.requires.0 in
     let p = c.put_front in
-    rw wide' (filled c.args.half wide' is-sound' c.args.piece.now p.new.out c.tail_length-from.ensures (rw wide' at p.ensures))
+    filled c.args.half (wide') (is-sound') c.args.piece.now p.new.out c.tail_length-from.ensures p.ensures
 
 pub returns-then-piece-lead : goal.returns-then-piece-lead
 unfolding joined
@@ -55,18 +61,29 @@ returns-then-piece-lead c = fills-short c.args.half (wide (goal.at.returns-then-
     c.tail_length-from.ensures (is-joined (goal.at.returns-then-piece-lead c).After-put_front)
     c.if-piece-lead.true
 
-end-within : (c : Else-piece-lead) → c.tail_length-from.result
+end-within : (c : After-tail_length-from) → c.tail_length-from.result
     + lack c.block_bytes-size.result
     c.tail_length-from.result ≤ tail_room
 end-within c =
-    let from-lt' : c.tail_length-from.result < c.block_bytes-size.result =
-    omega (arith, c.block_bytes-size.ensures, c.tail_length-from.ensures, tail-lt c.args.half) in
     let b = c.block_bytes-size in
-    omega (arith, (lack-whole b.result c.tail_length-from.result (from-lt')).2, b.ensures, block_within c.args.half.edition)
+    omega (arith, (lack-whole b.result c.tail_length-from.result (from-lt c)).2, b.ensures, block_within c.args.half.edition)
 
-pub shared_ref_as_front-absorb : goal.shared_ref_as_front-absorb
+-- the begun block ends within the tail
+ends : (c : After-put_front) → c.tail_length-from.result + lack c.block_bytes-size.result c.tail_length-from.result ≤ length (joined c)
+ends c = omega (
+  arith,
+  end-within (goal.at.After-put_front c).After-tail_length-from,
+  ap length (is-joined c),
+  length-padded (waiting c.args.half c.args.piece.now),
+)
+
+pub slice_bounds-tail-end-2 : goal.slice_bounds-tail-end-2
 unfolding joined
-shared_ref_as_front-absorb c = end-within (goal.at.shared_ref_as_front-absorb c).Else-piece-lead
+slice_bounds-tail-end-2 c = ends (goal.at.slice_bounds-tail-end-2 c).After-put_front
+
+pub slice_bounds-absorb-end : goal.slice_bounds-absorb-end
+unfolding joined
+slice_bounds-absorb-end c = sym (length-take-le _ _ (ends (goal.at.slice_bounds-absorb-end c).After-put_front))
 
 pub returns : goal.returns
 unfolding joined
@@ -74,16 +91,19 @@ returns c = fills-long c.args.half (wide (goal.at.returns c).After-tail_length-f
     c.args.piece.now c.block_bytes-size.ensures c.tail_length-from.ensures (is-joined (goal.at.returns c).After-put_front)
     c.if-piece-lead.false
     c.absorb-filled.ensures
-    c.absorb-next.ensures
+    c.absorb.ensures
     c.rest_at-whole.ensures
-    c.padded-next.ensures
+    c.padded.ensures
 
 -- the sum keeps the limit, and so it does not wrap
 
-pub overflow_add-next : goal.overflow_add-next
-overflow_add-next c = omega (arith, length-fits _ _ _ c.requires.1)
+pub overflow_add-count : goal.overflow_add-count
+overflow_add-count c = omega (arith, length-fits _ _ _ c.requires.1)
 
--- what the begun block lacks
+-- the rest begins within the piece
+
+whole-within : {at : ℕ} (len n : ℕ) → at ≡ len / n * n → at ≤ len
+whole-within len n e = omega (arith, div-mul-le_self len n)
 
 pub overflow_sub-lead : goal.overflow_sub-lead
 overflow_sub-lead c = omega (arith, from-lt c)
@@ -91,13 +111,17 @@ overflow_sub-lead c = omega (arith, from-lt c)
 pub nonzero_rem-lead : goal.nonzero_rem-lead
 nonzero_rem-lead c = size-some c
 
--- the tail's bytes lie within it
-
-room : (c : After-tail_length-from) → c.tail_length-from.result ≤ length c.args.half.tail
-room c = omega (arith, from-within c, wide c)
-
 pub slice_bounds-put_front-count : goal.slice_bounds-put_front-count
-slice_bounds-put_front-count c = room (goal.at.slice_bounds-put_front-count c).After-tail_length-from
+slice_bounds-put_front-count c = from-within (goal.at.slice_bounds-put_front-count c).After-tail_length-from
 
-pub slice_bounds-put_front-start : goal.slice_bounds-put_front-start
-slice_bounds-put_front-start c = room (goal.at.slice_bounds-put_front-start c).After-tail_length-from
+pub slice_bounds-tail-start : goal.slice_bounds-tail-start
+slice_bounds-tail-start c = from-within (goal.at.slice_bounds-tail-start c).After-tail_length-from
+
+pub overflow_add-end : goal.overflow_add-end
+overflow_add-end c = omega (arith, end-within (goal.at.overflow_add-end c).After-tail_length-from)
+
+pub slice_bounds-padded-count : goal.slice_bounds-padded-count
+slice_bounds-padded-count c = whole-within _ _ c.rest_at-whole.ensures
+
+pub slice_bounds-padded-start : goal.slice_bounds-padded-start
+slice_bounds-padded-start c = whole-within _ _ c.rest_at-whole.ensures

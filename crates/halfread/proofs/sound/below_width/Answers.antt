@@ -1,37 +1,21 @@
 -- `halfread::sound::below_width` meets its contract: of 64 bits every word is below; of 32 each is asked. Assumes nothing.
-use Prim.Native.Nat.{ℕ, ◌^◌, ◌<◌}
+use Prim.Native.Nat.{ℕ, ◌^◌}
 use mathlib.Core.Bool.{Bool, true, false}
-use mathlib.Core.List.{List}
-use mathlib.Core.Path.{◌≡◌, refl, sym, ◌∙◌}
-use native.Mathlib.Omega.{arith}
+use mathlib.Core.Path.{◌≡◌, sym}
 use mir.Syntax.{w64 as u64}
 use mir.Val.{Fits}
 use lib.Dec.{ltb}
-use lib.ListN.{length, get_or}
+use lib.ListN.{get_or}
 use borrow.Author.Rules.{rules}
 use borrow.Author.Tests.{tests}
-use Rattle.std.specs.Bool.{MatchBool}
-use Rattle.std.specs.List.{AllWithin, HoldsAt}
 use Rattle.std.proofs.lemmas.Iterator.{cases_from_all, YieldsList-from_slice}
 use Rattle.fips.specs.Words.{word}
 use Rattle.fips.specs.Sizes.{width_of}
-use Rattle.slices.specs.Tests.{every}
-use Rattle.slices.proofs.Tests.{every-at, at_every, below-all_below}
+use Rattle.slices.proofs.Tests.{every-found, below-all_below}
 use Rattle.halfread.proofs.sound.below_width.Goals as goal
 
 abbrev limits : Bool → ℕ
 limits thin = 2 ^ word (width_of thin)
-
--- what an iterator finds of all is what the test says
-found : (p : ℕ → Bool) (xs : List ℕ) (r : Bool) →
-    MatchBool r (AllWithin (λ x. p x ≡ true) xs 0 (length xs)) ((k : ℕ) × (k < length xs) × HoldsAt (λ x. p x ≡ false) xs k) →
-    r ≡ every p xs
-found p xs true all = sym (at_every p 0 xs (λ i h. all i 0 (omega arith) h))
-found p xs false one = go (every p xs) refl
-  where
-    go : (b : Bool) → every p xs ≡ b → false ≡ b
-    go true e = sym (one.2 0) ∙ every-at p 0 xs e one.0 one.1
-    go false e = refl
 
 pub returns-then-not-thin : goal.returns-then-not-thin
 returns-then-not-thin c = let words = c.args.words in
@@ -41,6 +25,6 @@ returns-then-not-thin c = let words = c.args.words in
 pub returns-else-not-thin : goal.returns-else-not-thin
 returns-else-not-thin c = let words = c.args.words in
     rw c.if-not-thin.false
-    (found (λ x. ltb x (2 ^ 32)) words c.all.result
+    (every-found (λ x. ltb x (2 ^ 32)) words c.all.result
     (cases_from_all _ _ _ (λ x. ltb x (2 ^ 32) ≡ true) (λ x. ltb x (2 ^ 32) ≡ false) c.all.ensures.ran (YieldsList-from_slice words cc)
     (λ x q k. search (rules, tests)) (λ x q k. search (rules, tests))))
